@@ -1,0 +1,97 @@
+-- What events on volumes and snapshots are answered.
+use Rattle.std.specs.Prelude.{ℕ, suc, ◌+◌, ◌*◌, ◌==◌, ◌||◌, not, nat_lt, nat_le, List, [], ◌∷◌, ◌++◌, length, slice_set, slice_get, slice_index_or, Option, Some, None, Result, Ok}
+use Rattle.std.specs.List.{list_any}
+use Rattle.std.specs.Str.{bytes_eq}
+use Rattle.sm_base.specs.declared.numbers.Ident.{Ident}
+use Rattle.sm_base.specs.declared.numbers.DiskNo.{DiskNo}
+use Rattle.sm_base.specs.declared.numbers.Kind.{Kind}
+use Rattle.sm_base.specs.declared.refusal.What.TheVariants.{Volumes}
+use Rattle.sm_base.specs.declared.refusal.Refusal.{Refusal}
+use Rattle.sm_base.specs.declared.refusal.Refusal.TheVariants as refusals
+use Rattle.sm_model.specs.declared.reply.Reply.TheVariants as replies
+use Rattle.sm_defs.specs.Limits.{most_volumes, most_snapshots, last_number, before_blocks}
+use Rattle.sm_defs.specs.Words.{last_that}
+use Rattle.sm_defs.specs.Image.{Image, Block, hole, full_block}
+use Rattle.sm_defs.specs.Volume.{Volume, Snapshot, new_volume, is_rw, used, free_tags}
+use Rattle.sm_defs.specs.World.{Up, with_volume}
+use Rattle.sm_model.specs.Answers.{Answer, ◌>>=◌, ◌>>◌, ◌when◌, ◌and◌, shows, some_or, volume_named, volno}
+
+-- how long a disk has to be, in bytes
+abbrev pub length_needed : ℕ → ℕ
+length_needed physical = before_blocks + 4096 * physical
+
+abbrev pub with_new_volume : Up → Volume → Up
+with_new_volume w v = record w { volumes = w.volumes ++ v ∷ [] }
+
+abbrev pub create_volume : Up → List ℕ → DiskNo → Kind → ℕ → ℕ → Answer
+create_volume w path disk kind logical physical = do
+  refusals.NameTaken when list_any (λ v. bytes_eq v.path path) w.volumes
+  refusals.NoDisk disk when disk.0 == 0
+  len ← some_or (refusals.NoDisk disk) (slice_get w.disks disk.0)
+  refusals.DiskTaken when list_any (λ v. v.disk == disk.0) w.volumes
+  refusals.Full Volumes when length w.volumes == most_volumes
+  refusals.DiskSmall (length_needed physical) len when nat_lt len (length_needed physical)
+  replies.Created (volno (length w.volumes)) and with_new_volume w (new_volume path disk.0 kind (length w.volumes) logical physical)
+
+-- the least free number, where one is free
+abbrev pub first_of : List ℕ → ℕ
+first_of [] = 0
+first_of (t ∷ ts) = t
+
+-- a new block lies at the least free number
+abbrev pub written : Volume → ℕ → ℕ → Volume
+written v block fill = record v { active = slice_set v.active block (full_block (first_of (free_tags v)) fill) }
+
+abbrev pub write : Up → List ℕ → ℕ → ℕ → Answer
+write w path block fill = do
+  v ← volume_named w path
+  refusals.ReadOnly when not (is_rw v.item.kind)
+  refusals.BadBlock when nat_le v.item.logical block
+  refusals.NoSpace when used v.item == v.item.physical
+  replies.Done and with_volume w v.at (written v.item block fill)
+
+abbrev pub client_ident : ℕ → Volume → Ident
+client_ident number v = record { origin = number; seq = 2 * v.next }
+
+abbrev pub client_snapshot : ℕ → ℕ → Volume → List ℕ → Option (List ℕ) → Snapshot
+client_snapshot number time v name label =
+    record { ident = client_ident number v; name = name; label = label; time = time; maker = 0; image = v.active }
+
+-- a consistency point, and a snapshot behind the others
+abbrev pub with_snapshot : Volume → Snapshot → Volume
+with_snapshot v s = record v { stable = v.active; snapshots = v.snapshots ++ s ∷ [] }
+
+-- the next number is never given again
+abbrev pub counted : Volume → Volume
+counted v = record v { next = suc v.next }
+
+abbrev pub snapped : ℕ → ℕ → Volume → List ℕ → Option (List ℕ) → Volume
+snapped number time v name label = counted (with_snapshot v (client_snapshot number time v name label))
+
+abbrev pub snap : Up → List ℕ → List ℕ → Option (List ℕ) → Answer
+snap w path name label = do
+  v ← volume_named w path
+  refusals.ReadOnly when not (is_rw v.item.kind)
+  refusals.NameTaken when list_any (λ s. bytes_eq s.name name) v.item.snapshots
+  refusals.SnapFull when (length v.item.snapshots == most_snapshots) || (v.item.next == last_number)
+  replies.Snapped (client_ident v.at v.item) and with_volume w v.at (snapped v.at w.clock v.item name label)
+
+-- the newest of the name
+abbrev pub snapshot_named : Volume → List ℕ → Result Snapshot Refusal
+snapshot_named v name = some_or (refusals.NoSnapshot name) (last_that (λ s. bytes_eq s.name name) v.snapshots)
+
+unfoldable pub image_named : Volume → Option (List ℕ) → Result Image Refusal
+image_named v None = Ok v.active
+image_named v (Some name) = do
+  s ← snapshot_named v name
+  Ok s.image
+
+abbrev pub block_at : Image → ℕ → Block
+block_at image place = slice_index_or image place hole
+
+abbrev pub read : Up → List ℕ → Option (List ℕ) → ℕ → Answer
+read w path name place = do
+  v ← volume_named w path
+  image ← image_named v.item name
+  refusals.BadBlock when nat_le v.item.logical place
+  shows (block_at image place).bytes w
