@@ -1,0 +1,96 @@
+-- How legal runs are put together and taken apart.
+use Rattle.std.proofs.Common.{◌≡◌, ◌⊎◌, List, [], ◌∷◌, ◌++◌, refl, sym, ap, subst, ◌∙◌, append_assoc}
+use Rattle.sm_base.specs.declared.numbers.Side.{Side}
+use Rattle.sm_model.specs.declared.reply.Entry.{Entry}
+use Rattle.sm_defs.specs.World.{Up}
+use Rattle.sm_model.specs.World.{World, up, Deed}
+use Rattle.sm_model.specs.LegalRun.{Fits, done, refused, IsAsked, Run}
+
+pub append_nil : {X : Type 0} (xs : List X) → xs ++ [] ≡ xs
+append_nil [] = refl
+append_nil (x ∷ xs) = ap (λ ys. x ∷ ys) (append_nil xs)
+
+-- further sides stay behind those that an entry takes
+pub fits_before : {w new : World} {e : Entry} {sides left : List Side} {ds : List Deed} (more : List Side) → Fits w e sides ds new left → Fits w e (sides ++ more) ds new (left ++ more)
+fits_before more (done d o a b c i) = done d o a b c i
+fits_before more (refused i) = refused i
+
+pub nil : (w : World) → Run w [] [] [] w
+nil w = (refl, refl, refl)
+
+-- one entry in front
+pub cons : (old mid new : World) (e : Entry) (es : List Entry) (sides left : List Side) (first later : List Deed) →
+    IsAsked old e.event → Fits old e sides first mid left → Run mid es left later new → Run old (e ∷ es) sides (first ++ later) new
+cons old mid new e es sides left first later asked f r = (first, later, left, mid, asked, f, r, refl)
+
+-- one run after another
+pub append : (old mid new : World) (es fs : List Entry) (sides more : List Side) (ds later : List Deed) →
+    Run old es sides ds mid → Run mid fs more later new → Run old (es ++ fs) (sides ++ more) (ds ++ later) new
+append old mid new [] fs sides more ds later (a, b, c) r = rw (a, b) (subst (λ w. Run w fs more later new) c r)
+append old mid new (e ∷ es) fs sides more ds later (first, rest, left, next, asked, f, r, q) s =
+    (first, rest ++ later, left ++ more, next, asked, fits_before more f, append next mid new es fs left more rest later r s, rw q (append_assoc first rest later))
+
+one : (w new : World) (e : Entry) (sides : List Side) (ds : List Deed) → IsAsked w e.event → Fits w e sides ds new [] → Run w (e ∷ []) sides ds new
+one w new e sides ds asked f = (ds, [], [], new, asked, f, nil new, sym (append_nil ds))
+
+-- one entry behind, where sides are left over by none
+pub snoc_sides : (old mid new : World) (es : List Entry) (e : Entry) (sides more : List Side) (ds first : List Deed) →
+    Run old es sides ds mid → IsAsked mid e.event → Fits mid e more first new [] → Run old (es ++ e ∷ []) (sides ++ more) (ds ++ first) new
+snoc_sides old mid new es e sides more ds first r asked f = append old mid new es (e ∷ []) sides more ds first r (one mid new e more first asked f)
+
+-- one entry behind, without restarts
+pub snoc : (old mid new : World) (es : List Entry) (e : Entry) (ds first : List Deed) →
+    Run old es [] ds mid → IsAsked mid e.event → Fits mid e [] first new [] → Run old (es ++ e ∷ []) [] (ds ++ first) new
+snoc old mid new es e ds first r asked f = snoc_sides old mid new es e [] [] ds first r asked f
+
+-- a run of one entry, without restarts
+pub single : (w new : World) (e : Entry) (ds : List Deed) → IsAsked w e.event → Fits w e [] ds new [] → Run w (e ∷ []) [] ds new
+single w new e ds asked f = one w new e [] ds asked f
+
+-- the sides that an entry takes, and what is left of them
+pub record Taking (w new : World) (e : Entry) (sides left : List Side) (ds : List Deed) : Type 0 where
+  pub taken : List Side
+  pub sides_are : sides ≡ taken ++ left
+  pub fits : Fits w e taken ds new []
+
+pub taking : {w new : World} {e : Entry} {sides left : List Side} {ds : List Deed} → Fits w e sides ds new left → Taking w new e sides left ds
+taking (done d o a b c i) = record { taken = []; sides_are = refl; fits = done d o a b c i }
+taking (refused i) = record { taken = []; sides_are = refl; fits = refused i }
+
+-- where a run is cut in two
+pub record Cut (old new : World) (front back : List Entry) (sides : List Side) (ds : List Deed) : Type 0 where
+  pub mid : World
+  pub taken : List Side
+  pub left : List Side
+  pub first : List Deed
+  pub later : List Deed
+  pub front_runs : Run old front taken first mid
+  pub back_runs : Run mid back left later new
+  pub sides_are : sides ≡ taken ++ left
+  pub deeds_are : ds ≡ first ++ later
+
+-- a front of a run is a run, and so is what is behind it
+pub cut : (old new : World) (front back : List Entry) (sides : List Side) (ds : List Deed) → Run old (front ++ back) sides ds new → Cut old new front back sides ds
+cut old new [] back sides ds r = record {
+  mid = old;
+  taken = [];
+  left = sides;
+  first = [];
+  later = ds;
+  front_runs = nil old;
+  back_runs = r;
+  sides_are = refl;
+  deeds_are = refl;
+}
+cut old new (e ∷ es) back sides ds (first, rest, left, next, asked, f, r, q) =
+    let t = taking f in let c = cut next new es back left rest r in record {
+      mid = c.mid;
+      taken = t.taken ++ c.taken;
+      left = c.left;
+      first = first ++ c.first;
+      later = c.later;
+      front_runs = (first, c.first, c.taken, next, asked, fits_before c.taken t.fits, c.front_runs, refl);
+      back_runs = c.back_runs;
+      sides_are = t.sides_are ∙ (ap (λ x. t.taken ++ x) c.sides_are ∙ sym (append_assoc t.taken c.taken c.left));
+      deeds_are = q ∙ (ap (λ x. first ++ x) c.deeds_are ∙ sym (append_assoc first c.first c.later));
+    }
