@@ -1,0 +1,67 @@
+-- Numbers that were given stay given, and are never given again.
+use Rattle.std.proofs.Common.{◌≡◌, ◌⊎◌, ◌<◌, ◌≤◌, ◌+◌, ◌*◌, ℕ, suc, List, [], ◌∷◌, ◌++◌, length, Option, Some, Bool, refl, sym, ◌∙◌, subst, inl, inr, ap, arith}
+use Rattle.std.specs.Prelude.{slice_index_or, slice_set}
+use Rattle.std.proofs.lemmas.List.{length-set, length-append, get_or_append_left}
+use Rattle.sm_base.specs.declared.numbers.Ident.{Ident}
+use Rattle.sm_defs.specs.Words.{Among, Found, found}
+use Rattle.sm_defs.specs.Volume.{Volume, Snapshot, no_volume}
+use Rattle.sm_defs.specs.World.{Up, volume_at, with_volume}
+use Rattle.sm_model.specs.Standing.{Stands}
+use Rattle.sm_model.specs.OfVolumes.{client_ident, with_new_volume}
+use Rattle.sm_model.specs.NumbersStand.{NumbersStand, NumberStands, IsNumbered, clients, IsClients}
+use Rattle.sm_laws.proofs.Frames.{found_at, set_cases}
+
+-- no volume goes, and no next number falls
+pub record Grown (old new : Up) : Type 0 where
+  pub longer : length old.volumes ≤ length new.volumes
+  pub counts : (i : ℕ) → i < length old.volumes → (volume_at old i).next ≤ (volume_at new i).next
+
+pub grown_same : (w : Up) → Grown w w
+grown_same w = record { longer = omega arith; counts = λ i h. omega arith }
+
+set_longer : {X : Type 0} (xs : List X) (i : ℕ) (y : X) → length xs ≤ length (slice_set xs i y)
+set_longer xs i y = let e = length-set xs i y in omega arith
+
+pub grown_set : (w : Up) (i : ℕ) (u : Volume) → (volume_at w i).next ≤ u.next → Grown w (with_volume w i u)
+grown_set w i u h = record { longer = set_longer w.volumes i u; counts = λ k _. go k (set_cases w.volumes i k u no_volume) }
+  where
+    go : (k : ℕ) → (volume_at (with_volume w i u) k ≡ volume_at w k) ⊎ ((k ≡ i) × (volume_at (with_volume w i u) k ≡ u)) → (volume_at w k).next ≤ (volume_at (with_volume w i u) k).next
+    go k (inl e) = rw e (omega arith)
+    go k (inr (e, f)) = rw (f, e) h
+
+push_longer : {X : Type 0} (xs : List X) (y : X) → length xs ≤ length (xs ++ y ∷ [])
+push_longer xs y = let e = length-append xs (y ∷ []) in omega arith
+
+pub grown_push : (w : Up) (u : Volume) → Grown w (with_new_volume w u)
+grown_push w u = record { longer = push_longer w.volumes u; counts = λ i h. rw (get_or_append_left w.volumes (u ∷ []) no_volume i h) (omega arith) }
+
+-- the identity's number was given
+pub data Given (w : Up) (i : Ident) : Type 0 where
+  clients_number : i.origin < length w.volumes → (c : ℕ) → i.seq ≡ 2 * c → c < (volume_at w i.origin).next → Given w i
+
+pub given_grows : {old new : Up} {i : Ident} → Grown old new → Given old i → Given new i
+given_grows {old} {new} {i} g (clients_number at c e h) =
+    let a = g.longer in let b = g.counts i.origin at in clients_number (omega arith) c e (omega arith)
+
+numbered : {w : Up} {s : Snapshot} → s.ident.origin < length w.volumes → IsNumbered w s → Given w s.ident
+numbered at (clients c k) = clients_number at c k.seq k.given
+
+pub number_given : {w : Up} {s : Snapshot} → NumberStands w s → Given w s.ident
+number_given n = numbered n.origin n.seq
+
+grows_numbered : {old new : Up} {s : Snapshot} → Grown old new → s.ident.origin < length old.volumes → IsNumbered old s → IsNumbered new s
+grows_numbered {old} {new} {s} g at (clients c k) =
+    let b = g.counts s.ident.origin at in let h = k.given in
+    clients c (record { seq = k.seq; counts = k.counts; given = omega arith; maker = k.maker; name = k.name })
+
+pub number_grows : {old new : Up} {s : Snapshot} → Grown old new → NumberStands old s → NumberStands new s
+number_grows g n = let a = g.longer in let b = n.origin in record { origin = omega arith; seq = grows_numbered g n.origin n.seq }
+
+-- the number that a client's next snapshot gets was not given
+pub next_not_given : (w : Up) (p : Volume → Bool) (f : Found Volume) → found p w.volumes ≡ Some f → ¬ Given w (client_ident f.at f.item)
+next_not_given w p f is (clients_number at c e h) =
+    let n : (volume_at w f.at).next ≡ f.item.next = ap (λ v. v.next) (found_at p w.volumes f no_volume is) in omega (arith, n, e, h)
+
+pub client_fresh : (w : Up) (p : Volume → Bool) (f : Found Volume) → NumbersStand w → found p w.volumes ≡ Some f →
+    (u : Volume) (s : Snapshot) → Stands w u s → ¬ (s.ident ≡ client_ident f.at f.item)
+client_fresh w p f n is u s h e = next_not_given w p f is (subst (Given w) e (number_given (n.snapshots u s h)))
