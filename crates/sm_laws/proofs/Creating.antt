@@ -1,16 +1,13 @@
 -- What holds of a new volume.
-use Rattle.std.proofs.Common.{◌≡◌, ◌≢◌, ◌⊎◌, ◌<◌, ◌≤◌, ◌==◌, ℕ, Bool, true, false, not, List, [], ◌∷◌, ◌++◌, length, Option, Some, None, Ok, refl, sym, ap, subst, ◌∙◌, inl, inr, arith}
-use Rattle.std.specs.Prelude.{nat_lt}
+use Rattle.std.proofs.Common.{◌≡◌, ◌==◌, ℕ, false, List, length, refl, inl, inr}
 use Rattle.std.specs.Str.{bytes_eq}
 use Rattle.std.specs.List.{list_any}
 use Rattle.std.proofs.lemmas.Bool.{ltb-true}
 use Rattle.sm_base.specs.declared.numbers.Ident.{Ident}
 use Rattle.sm_base.specs.declared.numbers.DiskNo.{DiskNo}
 use Rattle.sm_base.specs.declared.numbers.Kind.{Kind}
-use Rattle.sm_base.specs.declared.numbers.Kind.TheVariants.{Rw, Dp}
-use Rattle.sm_base.specs.declared.refusal.Refusal.TheVariants as refusals
+use Rattle.sm_base.specs.declared.numbers.Kind.TheVariants.{Dp}
 use Rattle.sm_defs.specs.Limits.{most_volumes}
-use Rattle.sm_defs.specs.Words.{Among}
 use Rattle.sm_defs.specs.Volume.{Volume, Snapshot, new_volume}
 use Rattle.sm_defs.specs.World.{Up}
 use Rattle.sm_model.specs.declared.event.Event.TheVariants as events
@@ -20,7 +17,7 @@ use Rattle.sm_model.specs.Answers.{told, volno}
 use Rattle.sm_model.specs.InRange.{IsGiven, IsCreation}
 use Rattle.sm_model.specs.OfVolumes.{create_volume, with_new_volume, length_needed}
 use Rattle.sm_model.specs.World.{Deed}
-use Rattle.sm_model.specs.Standing.{Stands, Stored}
+use Rattle.sm_model.specs.Standing.{Stands}
 use Rattle.sm_model.specs.Formed.{Formed}
 use Rattle.sm_model.specs.TagsFit.{TagsFit, TagsFitIn}
 use Rattle.sm_model.specs.DestinationsStand.{DestinationsStand, StandsAtSnapshot}

@@ -1,6 +1,6 @@
 -- The empty world is sound.
 use Rattle.std.proofs.Common.{ℕ, List, arith}
-use Rattle.sm_defs.specs.World.{Up, empty_world}
+use Rattle.sm_defs.specs.World.{empty_world}
 use Rattle.sm_model.specs.Sound.{SoundUp}
 
 pub empty_sound : (disks : List ℕ) → SoundUp (empty_world disks)

@@ -1,5 +1,5 @@
 -- Copies in one family still have the same numbers.
-use Rattle.std.proofs.Common.{◌≡◌, ◌⊎◌, refl, sym, ◌∙◌, subst, inl, inr, ap}
+use Rattle.std.proofs.Common.{◌≡◌, ◌⊎◌, refl, sym, ◌∙◌, inl, inr, ap}
 use Rattle.sm_defs.specs.Image.{tags}
 use Rattle.sm_defs.specs.Volume.{Volume, Snapshot}
 use Rattle.sm_defs.specs.World.{Up}

@@ -1,14 +1,14 @@
 -- Numbers that were given stay given, and are never given again.
-use Rattle.std.proofs.Common.{◌≡◌, ◌⊎◌, ◌<◌, ◌≤◌, ◌+◌, ◌*◌, ℕ, suc, List, [], ◌∷◌, ◌++◌, length, Option, Some, Bool, refl, sym, ◌∙◌, subst, inl, inr, ap, arith}
-use Rattle.std.specs.Prelude.{slice_index_or, slice_set}
+use Rattle.std.proofs.Common.{◌≡◌, ◌⊎◌, ◌<◌, ◌≤◌, ◌*◌, ℕ, List, [], ◌∷◌, ◌++◌, length, Some, Bool, subst, inl, inr, ap, arith}
+use Rattle.std.specs.Prelude.{slice_set}
 use Rattle.std.proofs.lemmas.List.{length-set, length-append, get_or_append_left}
 use Rattle.sm_base.specs.declared.numbers.Ident.{Ident}
-use Rattle.sm_defs.specs.Words.{Among, Found, found}
+use Rattle.sm_defs.specs.Words.{Found, found}
 use Rattle.sm_defs.specs.Volume.{Volume, Snapshot, no_volume}
 use Rattle.sm_defs.specs.World.{Up, volume_at, with_volume}
 use Rattle.sm_model.specs.Standing.{Stands}
 use Rattle.sm_model.specs.OfVolumes.{client_ident, with_new_volume}
-use Rattle.sm_model.specs.NumbersStand.{NumbersStand, NumberStands, IsNumbered, clients, IsClients}
+use Rattle.sm_model.specs.NumbersStand.{NumbersStand, NumberStands, IsNumbered, clients}
 use Rattle.sm_laws.proofs.Frames.{found_at, set_cases}
 
 -- no volume goes, and no next number falls

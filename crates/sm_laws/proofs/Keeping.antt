@@ -1,14 +1,12 @@
 -- Each volume still has each identity.
-use Rattle.std.proofs.Common.{◌≡◌, ◌⊎◌, ◌<◌, ◌≤◌, ℕ, Bool, true, false, List, [], ◌∷◌, ◌++◌, length, refl, sym, ap, subst, ◌∙◌, inl, inr, true≢false}
-use Rattle.std.specs.List.{list_any}
+use Rattle.std.proofs.Common.{◌≡◌, ◌⊎◌, ◌<◌, ◌≤◌, ℕ, true, List, [], ◌∷◌, ◌++◌, length, sym, subst, inl, inr, true≢false}
 use Rattle.std.proofs.lemmas.Bool.{or_cases, or_left, or_right, cases_lt}
 use Rattle.std.proofs.lemmas.List.{get_or_append_left, get_or_past}
 use Rattle.sm_base.specs.declared.numbers.Ident.{Ident}
-use Rattle.sm_defs.specs.Words.{Among, same_ident}
+use Rattle.sm_defs.specs.Words.{same_ident}
 use Rattle.sm_defs.specs.Volume.{Volume, Snapshot, no_volume, has}
 use Rattle.sm_defs.specs.World.{Up, volume_at, with_volume}
 use Rattle.sm_model.specs.OfVolumes.{with_new_volume}
-use Rattle.sm_laws.proofs.Members.{any_among, is_same}
 use Rattle.sm_laws.proofs.Frames.{set_cases}
 
 abbrev pub KeepsAll : Up → Up → Type 0

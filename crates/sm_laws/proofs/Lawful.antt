@@ -1,5 +1,5 @@
 -- What holds of each deed.
-use Rattle.std.proofs.Common.{◌≡◌, ◌⊎◌, ℕ, Bool, true, false, cond, List, [], ◌∷◌, Option, Some, None, refl, sym, ap, subst, ◌∙◌, true≢false, inl, inr}
+use Rattle.std.proofs.Common.{◌≡◌, ℕ, Bool, true, false, cond, List, [], ◌∷◌, Some, None, refl, sym, subst, ◌∙◌, true≢false}
 use Rattle.std.specs.List.{find}
 use Rattle.sm_base.specs.declared.numbers.Ident.{Ident}
 use Rattle.sm_base.specs.declared.numbers.VolNo.{VolNo}
@@ -13,7 +13,7 @@ use Rattle.sm_model.specs.declared.event.Event.{Event}
 use Rattle.sm_model.specs.declared.reply.Line.{Line}
 use Rattle.sm_model.specs.declared.reply.Reply.{Reply}
 use Rattle.sm_model.specs.declared.reply.Reply.TheVariants as replies
-use Rattle.sm_model.specs.Answers.{Reached, Told, bytes, Tells}
+use Rattle.sm_model.specs.Answers.{Reached, bytes, Tells}
 use Rattle.sm_model.specs.InRange.{IsGiven}
 use Rattle.sm_model.specs.World.{Deed}
 use Rattle.sm_model.specs.Standing.{Stands}

@@ -1,5 +1,5 @@
 -- What holds of each answer: it is reached lawfully, or refused as listed.
-use Rattle.std.proofs.Common.{◌≡◌, ℕ, Option, Ok, Err}
+use Rattle.std.proofs.Common.{◌≡◌, Ok, Err}
 use Rattle.sm_base.specs.declared.refusal.Refusal.{Refusal}
 use Rattle.sm_defs.specs.World.{Up}
 use Rattle.sm_model.specs.declared.event.Event.{Event}

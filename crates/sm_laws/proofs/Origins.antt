@@ -1,7 +1,7 @@
 -- Along a run each snapshot has the contents of its origin.
-use Rattle.std.proofs.Common.{◌≡◌, ◌⊎◌, ℕ, Bool, true, false, cond, ◌||◌, List, [], ◌∷◌, ◌++◌, Option, Some, None, refl, sym, ap, subst, ◌∙◌, inl, inr}
+use Rattle.std.proofs.Common.{◌≡◌, Bool, true, false, cond, ◌||◌, List, [], ◌∷◌, ◌++◌, Option, Some, None, refl, sym, ap, subst, ◌∙◌, inl, inr}
 use Rattle.std.specs.List.{find, list_any}
-use Rattle.std.proofs.lemmas.Bool.{or_cases, or_parts, false_from_ne_true, both_ways}
+use Rattle.std.proofs.lemmas.Bool.{false_from_ne_true, both_ways}
 use Rattle.std.proofs.lemmas.Option.{same_Some}
 use Rattle.sm_base.specs.declared.numbers.Ident.{Ident}
 use Rattle.sm_base.specs.declared.numbers.Side.{Side}
@@ -15,10 +15,11 @@ use Rattle.sm_model.specs.Standing.{Stands}
 use Rattle.sm_model.specs.Sound.{SoundUp, Sound}
 use Rattle.sm_model.specs.CopiesAgree.{IsCopy, CopiesAgree}
 use Rattle.sm_model.specs.NumbersStand.{NumbersStand}
-use Rattle.sm_model.specs.Origin.{makes, or_next, lowest_copy, found_active, origin_from, origin}
-use Rattle.sm_model.specs.LegalRun.{Fits, done, refused, IsAsked, Run}
+use Rattle.sm_model.specs.Origin.{makes, or_next, lowest_copy, found_active, origin_from}
+use Rattle.sm_model.specs.LegalRun.{Fits, done, refused, Run}
+use Rattle.sm_laws.specs.Laws.{HasOriginsContents}
 use Rattle.sm_laws.proofs.Members.{same_is, any_among, is_same}
-use Rattle.sm_laws.proofs.Copies.{ComesFrom, copy_trans, stays}
+use Rattle.sm_laws.proofs.Copies.{copy_trans, stays}
 use Rattle.sm_laws.proofs.Given.{Given, Grown, grown_same, given_grows, number_given}
 use Rattle.sm_laws.proofs.Lawful.{IsLawful, Traced, from_old, from_deed, AllTraced}
 use Rattle.sm_laws.proofs.Soundness.{lawful_if_done, entry_keeps}
@@ -132,10 +133,6 @@ lowest_none i [] e v t m n = absurd m
 lowest_none i (z ∷ zs) e v t (inl p) n = lacked z.snapshots i t (none_both _ (lowest_copy i zs) e).0 (subst (λ y. Among y.snapshots t) p n)
 lowest_none i (z ∷ zs) e v t (inr m) n = lowest_none i zs (none_both _ (lowest_copy i zs) e).1 v t m n
 
--- the contents of the origin
-abbrev pub HasOrigin : Up → List Deed → Snapshot → Type 0
-HasOrigin start ds s = (image : Image) × (origin start ds s.ident ≡ Some image) × SameContents s.image image
-
 old_origin : (w : Up) (s t : Snapshot) (o : Option Snapshot) (maker : Option Deed) → lowest_copy s.ident w.volumes ≡ o → IsCopy s t → (v : Volume) → Stands w v t → CopiesAgree w →
     (image : Image) × (origin_from s.ident o maker ≡ Some image) × SameContents s.image image
 old_origin w s t None maker e c v m k = absurd (lowest_none s.ident w.volumes e v t m.0 m.1 (sym c.ident))
@@ -147,7 +144,7 @@ made_origin w s None maker d e n k f c = ((volume_at d.old s.ident.origin).activ
 made_origin w s (Some u) maker d e n k f c =
     let (z, a, b, p) = lowest_is s.ident w.volumes u e in absurd (n (subst (Given w) p (number_given (k.snapshots z u (a, b)))))
 
-pub traced_origin : (w : Up) (ds : List Deed) (s : Snapshot) → SoundUp w → Traced w ds s → HasOrigin w ds s
+pub traced_origin : (w : Up) (ds : List Deed) (s : Snapshot) → SoundUp w → Traced w ds s → HasOriginsContents w ds s
 traced_origin w ds s h (from_old f) = old_origin w s f.snapshot (lowest_copy s.ident w.volumes) (find (makes s.ident) ds) refl f.copy f.volume f.stands h.copies_agree
 traced_origin w ds s h (from_deed n d f e) = made_origin w s (lowest_copy s.ident w.volumes) (find (makes s.ident) ds) d refl n h.numbers_stand f e
 
@@ -157,5 +154,5 @@ later_go i (Some s) p ds later q image f e = e
 later_go i None p ds later None image f e = absurd (cc)
 later_go i None p ds later (Some d) image f e = ap (found_active i) (find_left p ds later d f) ∙ e
 
-pub origin_stays : (w : Up) (ds later : List Deed) (s : Snapshot) → HasOrigin w ds s → HasOrigin w (ds ++ later) s
+pub origin_stays : (w : Up) (ds later : List Deed) (s : Snapshot) → HasOriginsContents w ds s → HasOriginsContents w (ds ++ later) s
 origin_stays w ds later s (image, e, c) = (image, later_go s.ident (lowest_copy s.ident w.volumes) (makes s.ident) ds later (find (makes s.ident) ds) image refl e, c)

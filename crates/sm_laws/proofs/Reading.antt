@@ -1,23 +1,18 @@
 -- What holds of a read.
-use Rattle.std.proofs.Common.{◌≡◌, ◌⊎◌, ℕ, Bool, true, false, List, [], ◌∷◌, Option, Some, None, Ok, Err, refl, sym, ap, subst, ◌∙◌, inl, inr}
-use Rattle.std.specs.Prelude.{nat_le, Result}
-use Rattle.sm_base.specs.declared.numbers.Ident.{Ident}
+use Rattle.std.proofs.Common.{◌≡◌, ℕ, List, Option, Some, None, refl, inl, inr}
 use Rattle.sm_base.specs.declared.refusal.Refusal.{Refusal}
-use Rattle.sm_base.specs.declared.refusal.Refusal.TheVariants as refusals
-use Rattle.sm_defs.specs.Words.{Among, last_that}
 use Rattle.sm_defs.specs.Image.{Image}
-use Rattle.sm_defs.specs.Volume.{Volume, Snapshot}
+use Rattle.sm_defs.specs.Volume.{Volume}
 use Rattle.sm_defs.specs.World.{Up}
 use Rattle.sm_model.specs.declared.event.Event.TheVariants as events
 use Rattle.sm_model.specs.declared.reply.Reply.{Reply}
 use Rattle.sm_model.specs.declared.reply.Reply.TheVariants as replies
-use Rattle.sm_model.specs.Answers.{Reached, bytes, Tells, and_then, some_or}
+use Rattle.sm_model.specs.Answers.{bytes, Tells}
 use Rattle.sm_model.specs.OfVolumes.{read, image_named, block_at}
-use Rattle.sm_model.specs.World.{Deed}
 use Rattle.sm_model.specs.Drops.{NamedFor}
 use Rattle.sm_laws.specs.Listed.{IsListed, LacksName}
 use Rattle.sm_laws.proofs.Walk.{Ends, past, with_found, with_ok, now, from_err}
-use Rattle.sm_laws.proofs.Lawful.{DoesLawfully, deed, quiet, bytes_make_nothing}
+use Rattle.sm_laws.proofs.Lawful.{DoesLawfully, quiet, bytes_make_nothing}
 
 no_refusal : (reply : Reply) (bs : List ℕ) → Tells (bytes bs) reply → (r : Refusal) → ¬ (reply ≡ replies.Refused r)
 no_refusal reply bs (block, e, f) r g = cc

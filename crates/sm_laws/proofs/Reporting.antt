@@ -1,5 +1,5 @@
 -- What holds of the report's lines.
-use Rattle.std.proofs.Common.{◌≡◌, ℕ, Option, Ok, refl}
+use Rattle.std.proofs.Common.{ℕ, Option}
 use Rattle.sm_base.specs.declared.numbers.VolNo.{VolNo}
 use Rattle.sm_defs.specs.World.{Up}
 use Rattle.sm_model.specs.declared.event.Event.TheVariants as events

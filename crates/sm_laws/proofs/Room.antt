@@ -1,12 +1,11 @@
 -- Where not all blocks are used, a number is free.
-use Rattle.std.proofs.Common.{◌≡◌, ◌≢◌, ◌⊎◌, ◌<◌, ◌≤◌, ◌+◌, ℕ, zero, suc, ◌==◌, ◌||◌, Bool, true, false, not, cond, List, [], ◌∷◌, ◌++◌, map, Some, None, refl, sym, ap, subst, ◌∙◌, inl, inr, eqb-true, arith}
+use Rattle.std.proofs.Common.{◌≡◌, ◌≢◌, ◌⊎◌, ◌<◌, ◌≤◌, ◌+◌, ℕ, zero, suc, ◌==◌, ◌||◌, Bool, true, false, not, cond, List, [], ◌∷◌, ◌++◌, Some, refl, inl, inr, eqb-true, arith}
 use Rattle.std.specs.Prelude.{slice_get}
 use Rattle.std.specs.List.{list_any, filter, flat_map}
 use Rattle.std.proofs.lemmas.Bool.{or_cases, or_left, or_right, not-false, cases_order}
 use Rattle.sm_defs.specs.Words.{Among}
-use Rattle.sm_defs.specs.Image.{Block, Image, tag_of, tags, stands, distinct}
+use Rattle.sm_defs.specs.Image.{Block, Image, tags, stands}
 use Rattle.sm_defs.specs.Volume.{Volume, images_of, tags_of, numbers, free_tags, used}
-use Rattle.sm_model.specs.Standing.{Stored}
 use Rattle.sm_model.specs.TagsFit.{TagsFitIn}
 use Rattle.sm_model.specs.OfVolumes.{first_of}
 use Rattle.sm_laws.proofs.Pigeonhole.{at_least, at_most}

@@ -1,9 +1,8 @@
 -- How legal runs are put together and taken apart.
-use Rattle.std.proofs.Common.{◌≡◌, ◌⊎◌, List, [], ◌∷◌, ◌++◌, refl, sym, ap, subst, ◌∙◌, append_assoc}
+use Rattle.std.proofs.Common.{◌≡◌, List, [], ◌∷◌, ◌++◌, refl, sym, ap, subst, ◌∙◌, append_assoc}
 use Rattle.sm_base.specs.declared.numbers.Side.{Side}
 use Rattle.sm_model.specs.declared.reply.Entry.{Entry}
-use Rattle.sm_defs.specs.World.{Up}
-use Rattle.sm_model.specs.World.{World, up, Deed}
+use Rattle.sm_model.specs.World.{World, Deed}
 use Rattle.sm_model.specs.LegalRun.{Fits, done, refused, IsAsked, Run}
 
 pub append_nil : {X : Type 0} (xs : List X) → xs ++ [] ≡ xs

@@ -1,6 +1,6 @@
 -- Changed volumes, and worlds with them, are formed.
-use Rattle.std.proofs.Common.{◌≡◌, ◌≢◌, ◌⊎◌, ◌<◌, ◌≤◌, ◌+◌, ℕ, zero, suc, Bool, true, false, List, [], ◌∷◌, ◌++◌, map, length, Option, Some, None, refl, sym, ap, subst, ◌∙◌, inl, inr, arith}
-use Rattle.std.specs.Prelude.{slice_get, slice_set, replicate}
+use Rattle.std.proofs.Common.{◌≡◌, ◌≢◌, ◌⊎◌, ◌<◌, ℕ, Bool, List, [], ◌∷◌, length, Option, Some, refl, sym, ap, subst, ◌∙◌, inl, inr, arith}
+use Rattle.std.specs.Prelude.{slice_get}
 use Rattle.std.proofs.lemmas.Option.{same_Some}
 use Rattle.std.proofs.lemmas.List.{length-set, length-append, length-replicate}
 use Rattle.sm_base.specs.declared.numbers.Kind.{Kind}
@@ -14,9 +14,8 @@ use Rattle.sm_model.specs.Standing.{Stored}
 use Rattle.sm_model.specs.TagsFit.{TagsFitIn}
 use Rattle.sm_model.specs.Formed.{FormedSnapshot, FormedVolume, Formed, path_of, disk_of}
 use Rattle.sm_model.specs.OfVolumes.{first_of, written, with_snapshot, counted, with_new_volume}
-use Rattle.sm_laws.proofs.Members.{among_append}
 use Rattle.sm_laws.proofs.Frames.{each_set, each_push, get_found, differ_set, get_replicate}
-use Rattle.sm_laws.proofs.Tags.{ImagesFrom, stored_from, snapped_from, written_stored, tag_of_full, differ_push}
+use Rattle.sm_laws.proofs.Tags.{stored_from, snapped_from, written_stored, tag_of_full, differ_push}
 
 -- ---- worlds
 

@@ -1,12 +1,10 @@
 -- What holds of a client's snapshot.
-use Rattle.std.proofs.Common.{◌≡◌, ◌≢◌, ◌⊎◌, ◌<◌, ◌≤◌, ◌==◌, ◌||◌, ℕ, suc, Bool, true, false, not, List, [], ◌∷◌, ◌++◌, length, map, Option, Some, None, Ok, refl, sym, ap, subst, ◌∙◌, inl, inr, arith}
+use Rattle.std.proofs.Common.{◌≡◌, ◌⊎◌, ◌<◌, ◌≤◌, ◌==◌, ℕ, suc, true, false, List, [], ◌∷◌, length, map, Option, Some, refl, sym, ap, subst, inl, inr, arith}
 use Rattle.std.specs.Str.{bytes_eq}
-use Rattle.std.specs.List.{list_any, find}
-use Rattle.std.proofs.lemmas.Bool.{or_parts, eqb-false}
+use Rattle.std.proofs.lemmas.Bool.{or_parts}
 use Rattle.std.proofs.lemmas.List.{length-set, get_or-set_same}
 use Rattle.sm_base.specs.declared.numbers.Ident.{Ident}
 use Rattle.sm_base.specs.declared.numbers.Kind.TheVariants.{Rw, Dp}
-use Rattle.sm_base.specs.declared.refusal.Refusal.TheVariants as refusals
 use Rattle.sm_defs.specs.Limits.{most_snapshots, last_number}
 use Rattle.sm_defs.specs.Words.{Among, Found, found}
 use Rattle.sm_defs.specs.Image.{SameContents, bytes_of}
@@ -22,13 +20,11 @@ use Rattle.sm_model.specs.World.{Deed}
 use Rattle.sm_model.specs.Standing.{Stands}
 use Rattle.sm_model.specs.Formed.{Formed}
 use Rattle.sm_model.specs.TagsFit.{TagsFit, TagsFitIn}
-use Rattle.sm_model.specs.CopiesAgree.{CopiesAgree}
-use Rattle.sm_model.specs.FamiliesAgree.{FamiliesAgree}
 use Rattle.sm_model.specs.DestinationsStand.{DestinationsStand, StandsAtSnapshot}
 use Rattle.sm_model.specs.NumbersStand.{NumbersStand, NumberStands, clients}
 use Rattle.sm_model.specs.Sound.{SoundUp}
 use Rattle.sm_model.specs.Drops.{NamedFor}
-use Rattle.sm_model.specs.Origin.{makes, made_by}
+use Rattle.sm_model.specs.Origin.{makes}
 use Rattle.sm_laws.specs.Listed.{IsListed}
 use Rattle.sm_laws.proofs.Tests.{writable, not_both, below_bound}
 use Rattle.sm_laws.proofs.Walk.{Ends, past, with_found, now}
@@ -40,7 +36,7 @@ use Rattle.sm_laws.proofs.Copies.{ComesFrom, stays, copies_fresh}
 use Rattle.sm_laws.proofs.Families.{ComesInFamily, stays_in_family, families_fresh}
 use Rattle.sm_laws.proofs.Given.{Given, clients_number, Grown, grown_set, number_grows, next_not_given, client_fresh}
 use Rattle.sm_laws.proofs.Keeping.{KeepsAll, keeps_set, has_append}
-use Rattle.sm_laws.proofs.Lawful.{DoesLawfully, IsLawful, Traced, from_old, from_deed, AllTraced, deed, snapped_makes, made_is, is_made, find_only, none_dropped}
+use Rattle.sm_laws.proofs.Lawful.{DoesLawfully, IsLawful, Traced, from_old, from_deed, deed, snapped_makes, made_is, is_made, find_only, none_dropped}
 
 -- the snapshot may be taken
 pub record MaySnap (w : Up) (path : List ℕ) (v : Found Volume) : Type 0 where

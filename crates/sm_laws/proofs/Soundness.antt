@@ -1,5 +1,5 @@
 -- Legal runs keep the sound world, and each of their deeds is lawful.
-use Rattle.std.proofs.Common.{◌≡◌, ◌⊎◌, List, [], ◌∷◌, ◌++◌, Result, Ok, Err, refl, sym, ap, subst, inl, inr}
+use Rattle.std.proofs.Common.{◌≡◌, ◌⊎◌, List, [], ◌∷◌, Ok, Err, refl, sym, subst, inl, inr}
 use Rattle.sm_base.specs.declared.numbers.Side.{Side}
 use Rattle.sm_defs.specs.Words.{Among}
 use Rattle.sm_defs.specs.World.{Up}
@@ -8,13 +8,13 @@ use Rattle.sm_model.specs.declared.reply.Entry.{Entry}
 use Rattle.sm_model.specs.Answers.{Answer}
 use Rattle.sm_model.specs.Answer.{answer}
 use Rattle.sm_model.specs.InRange.{IsGiven}
-use Rattle.sm_model.specs.World.{World, up, Deed}
+use Rattle.sm_model.specs.World.{World, Deed}
 use Rattle.sm_model.specs.LegalRun.{IsDone, Fits, done, refused, IsAsked, Run}
 use Rattle.sm_model.specs.Sound.{SoundUp, Sound}
 use Rattle.sm_laws.proofs.Members.{among_append}
 use Rattle.sm_laws.proofs.Lawful.{IsLawful, deed}
 use Rattle.sm_laws.proofs.OfAnswer.{of_ok}
-use Rattle.sm_laws.proofs.Runs.{Cut, cut}
+use Rattle.sm_laws.proofs.Runs.{Cut}
 
 done_lawful : (w : Up) (e : Event) (d : Deed) (a : Answer) → answer w e ≡ a → d.old ≡ w → d.event ≡ e → IsDone a d → IsLawful d
 done_lawful w e d (Ok r) i o b (t, n) =

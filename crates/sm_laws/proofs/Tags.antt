@@ -1,18 +1,16 @@
 -- Tags still fit in a volume that was changed.
-use Rattle.std.proofs.Common.{◌≡◌, ◌≢◌, ◌⊎◌, ◌≤◌, ℕ, zero, suc, ◌==◌, ◌&&◌, ◌||◌, Bool, true, false, cond, not, List, [], ◌∷◌, ◌++◌, map, Option, Some, None, refl, ap, sym, subst, ◌∙◌, inl, inr, eqb-true, eq-eqb, arith, zero-le, ◌+◌}
+use Rattle.std.proofs.Common.{◌≡◌, ◌≢◌, ◌⊎◌, ◌≤◌, ℕ, zero, suc, ◌==◌, ◌||◌, Bool, true, false, cond, not, List, [], ◌∷◌, ◌++◌, map, Some, refl, ap, sym, subst, ◌∙◌, inl, inr, eq-eqb, arith, zero-le, ◌+◌}
 use Rattle.std.proofs.lemmas.Bool.{or_left, or_right, or_cases, both_ways, not-true}
 use Rattle.std.proofs.lemmas.Option.{same_Some}
-use Rattle.std.specs.Prelude.{slice_get, slice_set, slice_index_or, length, ◌<◌}
+use Rattle.std.specs.Prelude.{slice_get, ◌<◌}
 use Rattle.std.specs.List.{filter, list_any, flat_map, AllByRecursion}
-use Rattle.sm_base.specs.declared.numbers.Kind.TheVariants.{Rw, Dp}
-use Rattle.sm_base.specs.declared.numbers.Ident.{Ident}
 use Rattle.sm_defs.specs.Words.{Among, KeysDiffer}
 use Rattle.sm_defs.specs.Image.{Block, Image, tags, tag_of, stands, full_block}
 use Rattle.sm_defs.specs.Volume.{Volume, Snapshot, ident_of, image_of, images_of, tags_of, free_tags, numbers}
-use Rattle.sm_model.specs.Standing.{Stored, EachVolume, Stands}
-use Rattle.sm_model.specs.TagsFit.{TagsFitIn, TagsFit}
+use Rattle.sm_model.specs.Standing.{Stored}
+use Rattle.sm_model.specs.TagsFit.{TagsFitIn}
 use Rattle.sm_model.specs.OfVolumes.{first_of, written, with_snapshot, counted}
-use Rattle.sm_laws.proofs.Members.{among_append, from_map, among_map, any_among}
+use Rattle.sm_laws.proofs.Members.{among_append, from_map, among_map}
 use Rattle.sm_laws.proofs.Frames.{get_set}
 
 -- each image of u is one of v

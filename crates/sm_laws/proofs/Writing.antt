@@ -1,31 +1,25 @@
 -- What holds of a write.
-use Rattle.std.proofs.Common.{◌≡◌, ◌≢◌, ◌⊎◌, ◌<◌, ◌≤◌, ◌==◌, ℕ, Bool, true, false, not, List, [], ◌∷◌, Option, Some, None, Ok, refl, sym, ap, subst, ◌∙◌, inl, inr, arith}
-use Rattle.std.specs.Prelude.{nat_le}
+use Rattle.std.proofs.Common.{◌≡◌, ◌≢◌, ◌<◌, ◌≤◌, ℕ, true, List, Some, refl, ap, subst, inl, inr, arith}
 use Rattle.std.specs.Str.{bytes_eq}
-use Rattle.std.proofs.lemmas.Bool.{not-false, leb-false, eqb-false, true≢false}
+use Rattle.std.proofs.lemmas.Bool.{leb-false, eqb-false}
 use Rattle.sm_base.specs.declared.numbers.Kind.TheVariants.{Rw, Dp}
 use Rattle.sm_base.specs.declared.numbers.Ident.{Ident}
-use Rattle.sm_base.specs.declared.refusal.Refusal.{Refusal}
-use Rattle.sm_base.specs.declared.refusal.Refusal.TheVariants as refusals
 use Rattle.sm_defs.specs.Words.{Among, Found, found}
-use Rattle.sm_defs.specs.Volume.{Volume, Snapshot, no_volume, is_rw, used, free_tags, has}
+use Rattle.sm_defs.specs.Volume.{Volume, Snapshot, no_volume, used, has}
 use Rattle.sm_defs.specs.World.{Up, volume_at, with_volume}
 use Rattle.sm_model.specs.declared.event.Event.TheVariants as events
 use Rattle.sm_model.specs.declared.reply.Reply.{Reply}
 use Rattle.sm_model.specs.declared.reply.Reply.TheVariants as replies
-use Rattle.sm_model.specs.Answers.{Reached, told}
-use Rattle.sm_model.specs.OfVolumes.{first_of, write, written}
+use Rattle.sm_model.specs.Answers.{told}
+use Rattle.sm_model.specs.OfVolumes.{write, written}
 use Rattle.sm_model.specs.World.{Deed}
 use Rattle.sm_model.specs.Standing.{Stands}
 use Rattle.sm_model.specs.Formed.{Formed}
 use Rattle.sm_model.specs.TagsFit.{TagsFit, TagsFitIn}
-use Rattle.sm_model.specs.CopiesAgree.{CopiesAgree}
-use Rattle.sm_model.specs.FamiliesAgree.{FamiliesAgree}
 use Rattle.sm_model.specs.DestinationsStand.{DestinationsStand, StandsAtSnapshot}
 use Rattle.sm_model.specs.NumbersStand.{NumbersStand, NumberStands}
 use Rattle.sm_model.specs.Sound.{SoundUp}
-use Rattle.sm_model.specs.Drops.{Drops, NamedFor}
-use Rattle.sm_model.specs.Origin.{made_by}
+use Rattle.sm_model.specs.Drops.{NamedFor}
 use Rattle.sm_laws.specs.Listed.{IsListed}
 use Rattle.sm_laws.proofs.Tests.{writable, not_both}
 use Rattle.sm_laws.proofs.Walk.{Ends, past, with_found, now}

@@ -1,2 +1,74 @@
-//! Laws of the definitions.
+//! Laws of the definitions: what holds of every answer and of every legal run.
+//!
+//! Each law is what a function without code ensures. The crate has no other code; its lemmas in
+//! `proofs/` are for the crates above.
 #![tactic(auto)]
+
+ghost use Rattle.sm_laws.specs.Laws.{EmptyWorldIsSound, EntriesKeepSoundness, RunsKeepSoundness, EachWorldIsSound, CopiesHaveTheirOriginsContents, CopiesHadTheirOriginsContents, DropsAreNamed, NeededStays, TextIsDetermined, RefusalsAreListed, OkIsNoRefusal, RefusalsChangeNothing, FirstVolumeIsMade};
+
+/// The world in which nothing was created is sound.
+pub fn empty_world_is_sound()
+    ensures { EmptyWorldIsSound }
+{}
+
+/// Each entry that can be asked for leads from a sound world to a sound world.
+pub fn entries_keep_soundness()
+    ensures { EntriesKeepSoundness }
+{}
+
+/// A legal run from a sound world ends in a sound world.
+pub fn runs_keep_soundness()
+    ensures { RunsKeepSoundness }
+{}
+
+/// A legal run from a sound world passes through sound worlds alone: behind any of its entries it can
+/// be cut in two runs, with a sound world between them.
+pub fn each_world_is_sound()
+    ensures { EachWorldIsSound }
+{}
+
+/// After a legal run from a sound world each snapshot on each volume has the contents that its origin
+/// held when it was taken.
+pub fn copies_have_their_origins_contents()
+    ensures { CopiesHaveTheirOriginsContents }
+{}
+
+/// So had each snapshot in each world on the way.
+pub fn copies_had_their_origins_contents()
+    ensures { CopiesHadTheirOriginsContents }
+{}
+
+/// A deed of a legal run drops exactly the snapshots that the rules name for it.
+pub fn drops_are_named()
+    ensures { DropsAreNamed }
+{}
+
+/// No deed of a legal run drops a snapshot that some relationship needs.
+pub fn needed_stays()
+    ensures { NeededStays }
+{}
+
+/// What a history was asked for, and its start, determine its text and its last world.
+pub fn text_is_determined()
+    ensures { TextIsDetermined }
+{}
+
+/// Each event is refused only for the reasons that are listed for it.
+pub fn refusals_are_listed()
+    ensures { RefusalsAreListed }
+{}
+
+/// What is not refused is never answered by a refusal.
+pub fn ok_is_no_refusal()
+    ensures { OkIsNoRefusal }
+{}
+
+/// An entry that answers a refusal is refused as listed, leaves the world, and is no deed.
+pub fn refusals_change_nothing()
+    ensures { RefusalsChangeNothing }
+{}
+
+/// Where nothing was created, a volume is made on any disk that is long enough.
+pub fn first_volume_is_made()
+    ensures { FirstVolumeIsMade }
+{}
