@@ -1,5 +1,5 @@
 -- What a change of one volume leaves.
-use Rattle.std.proofs.Common.{◌≡◌, ◌⊎◌, ℕ, zero, suc, Bool, true, false, cond, List, [], ◌∷◌, ◌++◌, map, Option, Some, None, refl, ap, sym, subst, inl, inr, ◌∙◌}
+use Rattle.std.proofs.Common.{◌≡◌, ◌⊎◌, ℕ, zero, suc, Bool, true, false, cond, List, [], ◌∷◌, ◌++◌, Option, Some, None, refl, ap, sym, subst, inl, inr, ◌∙◌}
 use Rattle.std.specs.Prelude.{slice_get, slice_set, slice_index_or, length, ◌<◌}
 use Rattle.std.proofs.lemmas.Option.{same_Some, slice_get_within, get_or_from_slice_get}
 use Rattle.std.specs.List.{AllByRecursion}
@@ -25,11 +25,6 @@ each_push P xs x h k y m = go (among_append xs (x ∷ []) y m)
     go (inl m) = h y m
     go (inr (inl e)) = subst P (sym e) k
     go (inr (inr n)) = elim n [ ]
-
-pub each_mapped : {X : Type 0} (P : X → Type 0) (f : X → X) (xs : List X) → ((y : X) → Among xs y → P (f y)) → (y : X) → Among (map f xs) y → P y
-each_mapped P f [] h y m = absurd m
-each_mapped P f (x ∷ xs) h y (inl e) = subst P (sym e) (h x (inl refl))
-each_mapped P f (x ∷ xs) h y (inr m) = each_mapped P f xs (λ z k. h z (inr k)) y m
 
 -- P of each snapshot that stands, after one volume was changed
 pub stands_set : (P : Volume → Snapshot → Type 0) (w : Up) (i : ℕ) (v : Volume) → ((s : Snapshot) → Among v.snapshots s → P v s) → ((u : Volume) (s : Snapshot) → Stands w u s → P u s) →

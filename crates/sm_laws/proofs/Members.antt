@@ -1,8 +1,8 @@
 -- What stands in a list after it was changed.
-use Rattle.std.proofs.Common.{◌≡◌, ◌⊎◌, ℕ, zero, suc, ◌==◌, Bool, true, false, cond, List, [], ◌∷◌, ◌++◌, map, Option, Some, None, refl, ap, ap₂, sym, subst, inl, inr, eqb-true, eq-eqb, arith}
-use Rattle.std.proofs.lemmas.Bool.{and_parts, and_from, or_cases, or_left, or_right}
+use Rattle.std.proofs.Common.{◌≡◌, ◌⊎◌, ℕ, zero, suc, ◌==◌, Bool, true, false, cond, List, [], ◌∷◌, ◌++◌, map, Option, Some, None, refl, ap, ap₂, sym, subst, inl, inr, eqb-true, eq-eqb}
+use Rattle.std.proofs.lemmas.Bool.{and_parts, and_from, or_left, or_right}
 use Rattle.std.proofs.lemmas.Option.{same_Some}
-use Rattle.std.specs.Prelude.{slice_set, slice_index_or, length, ◌<◌}
+use Rattle.std.specs.Prelude.{slice_set}
 use Rattle.std.specs.List.{list_any}
 use Rattle.sm_base.specs.declared.numbers.Ident.{Ident}
 use Rattle.sm_defs.specs.Words.{Among, Found, found, next_place, same_ident}
@@ -27,11 +27,6 @@ among_append (z ∷ xs) ys x (inr m) = go (among_append xs ys x m)
     go (inl m) = inl (inr m)
     go (inr m) = inr m
 
-pub among_left : {X : Type 0} (xs ys : List X) (x : X) → Among xs x → Among (xs ++ ys) x
-among_left (z ∷ xs) ys x (inl e) = inl e
-among_left (z ∷ xs) ys x (inr m) = inr (among_left xs ys x m)
-among_left [] ys x m = absurd m
-
 pub among_map : {X Y : Type 0} (f : X → Y) (xs : List X) (x : X) → Among xs x → Among (map f xs) (f x)
 among_map f (z ∷ xs) x (inl e) = inl (ap f e)
 among_map f (z ∷ xs) x (inr m) = inr (among_map f xs x m)
@@ -52,23 +47,10 @@ pub found_among : {X : Type 0} (p : X → Bool) (xs : List X) (f : Found X) → 
 found_among p [] f e = absurd (cc)
 found_among p (x ∷ xs) f e = found_go xs x (p x) (found p xs) f e (λ g. found_among p xs g)
 
-pub among_get_or : {X : Type 0} (xs : List X) (i : ℕ) (d : X) → i < length xs → Among xs (slice_index_or xs i d)
-among_get_or [] i d h = absurd (omega arith)
-among_get_or (x ∷ xs) zero d h = inl refl
-among_get_or (x ∷ xs) (suc i) d h = inr (among_get_or xs i d (omega arith))
-
 pub any_among : {X : Type 0} (p : X → Bool) (xs : List X) (x : X) → Among xs x → p x ≡ true → list_any p xs ≡ true
 any_among p [] x m e = absurd m
 any_among p (z ∷ xs) x (inl k) e = or_left _ _ (subst (λ y. p y ≡ true) k e)
 any_among p (z ∷ xs) x (inr m) e = or_right _ _ (any_among p xs x m e)
-
-pub among_any : {X : Type 0} (p : X → Bool) (xs : List X) → list_any p xs ≡ true → (x : X) × Among xs x × (p x ≡ true)
-among_any p [] e = absurd (cc)
-among_any {X} p (z ∷ xs) e = go (or_cases (p z) (list_any p xs) e) (among_any p xs)
-  where
-    go : (p z ≡ true) ⊎ (list_any p xs ≡ true) → (list_any p xs ≡ true → (x : X) × Among xs x × (p x ≡ true)) → (x : X) × Among (z ∷ xs) x × (p x ≡ true)
-    go (inl k) ih = (z, inl refl, k)
-    go (inr k) ih = let (x, m, q) = ih k in (x, inr m, q)
 
 pub same_is : (i j : Ident) → same_ident i j ≡ true → i ≡ j
 same_is i j e = let p = and_parts (i.origin == j.origin) (i.seq == j.seq) e in
