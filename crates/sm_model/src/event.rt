@@ -46,7 +46,8 @@ pub enum Event {
     },
 }
 
-fn copy_label(alloc: Global, label: &Option<Label>) -> Result<Option<Label>, NoMemory>
+/// An equal label, or none.
+pub fn copy_label(alloc: Global, label: &Option<Label>) -> Result<Option<Label>, NoMemory>
     ensures { IfOk result (λ copy. copy ≡ label.now) }
 {
     match label {

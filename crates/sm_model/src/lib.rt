@@ -7,7 +7,7 @@ mod refusal_text;
 mod reply;
 mod reply_text;
 
-pub use event::Event;
+pub use event::{Event, copy_label};
 pub use line_text::text_of_line;
 pub use refusal_text::text_of_refusal;
 pub use reply::{Entry, Line, Reply};
