@@ -16,4 +16,3 @@ without_bit a b i small less =
   where
     smaller : (x y : ℕ) → x < 2 → y < 2 → eqb (min x (1 - y)) 1 ≡ (eqb x 1 && not (eqb y 1))
     smaller x y hx hy = grind (arith, nat_tests)
-

@@ -54,15 +54,15 @@ module _ (words : List ℕ) (from : ℕ) (fits : Fits w64 (get_or words (from / 
       let within : from % 64 + t < 64 = elim (cases_lt (from % 64 + t) 64) [
         | inl less ↦ less
         | inr more ↦
-          let none : bit_at rest t ≡ 0 = shifted w (from % 64) t ∙ bit_at_above w 64 (from % 64 + t) fits.fits more in
-          absurd (omega (arith, none, lowest.1))
+            let none : bit_at rest t ≡ 0 = shifted w (from % 64) t ∙ bit_at_above w 64 (from % 64 + t) fits.fits more in
+            absurd (omega (arith, none, lowest.1))
       ] in record {
         from_on = omega arith;
         is_set = here t within ∙ is_one (bit_at rest t) lowest.1;
         least = λ other low high.
-          let e : from + (other - from) ≡ other = omega arith in
-          let less : from % 64 + (other - from) < 64 = omega arith in
-          ap (bit words) (sym e) ∙ here (other - from) less ∙ is_no_one (bit_at rest (other - from)) (lowest.2 (other - from) (omega arith));
+            let e : from + (other - from) ≡ other = omega arith in
+            let less : from % 64 + (other - from) < 64 = omega arith in
+            ap (bit words) (sym e) ∙ here (other - from) less ∙ is_no_one (bit_at rest (other - from)) (lowest.2 (other - from) (omega arith));
       }
 
   pub none_here : get_or words (from / 64) 0 / 2 ^ (from % 64) ≡ 0 → (place : ℕ) → from ≤ place → place < 64 * (from / 64 + 1) → bit words place ≡ false
@@ -86,8 +86,8 @@ module _ (words : List ℕ) (from : ℕ) (fits : Fits w64 (get_or words (from / 
           | inr late ↦ elim (cases_lt (other / 64) next) [
             | inl before ↦ clear_word words other (first.passed (other / 64) (omega arith) before)
             | inr at ↦
-              let e : 64 * next + other % 64 ≡ other = omega (arith, lowest.0) in
-              bit_of_word words next (other % 64) other (omega arith) e ∙ is_no_one (bit_at w (other % 64)) (lowest.2 (other % 64) (omega arith))
+                let e : 64 * next + other % 64 ≡ other = omega (arith, lowest.0) in
+                bit_of_word words next (other % 64) other (omega arith) e ∙ is_no_one (bit_at w (other % 64)) (lowest.2 (other % 64) (omega arith))
           ]
         ];
       }

@@ -65,19 +65,19 @@ module _ (places : ℕ) (words : List ℕ) (are : AreWordsOf places words) (at :
   unfolding bit
   elsewhere place other = elim (cases_eq (place / 64) (at / 64)) [
     | inl k ↦
-      let i : place % 64 ≢ at % 64 = λ e. other (omega (arith, k, e)) in
-      rw (k, get_or-set_same words (at / 64) word 0 (word_of places words are at less)) (ap (λ n. eqb n 1) (others (place % 64) (omega arith) i))
+        let i : place % 64 ≢ at % 64 = λ e. other (omega (arith, k, e)) in
+        rw (k, get_or-set_same words (at / 64) word 0 (word_of places words are at less)) (ap (λ n. eqb n 1) (others (place % 64) (omega arith) i))
     | inr k ↦ rw (get_or-set_other words (at / 64) (place / 64) word 0 k) refl
   ]
 
   changed : (place : ℕ) → bit (set words (at / 64) word) place ≡ cond (eqb place at) mark (bit words place)
   changed place = elim (cases_eq place at) [
     | inl here ↦
-      let test : eqb place at ≡ true = grind (arith, nat_tests) in
-      at_place place here ∙ sym (ap (λ b. cond b mark (bit words place)) test)
+        let test : eqb place at ≡ true = grind (arith, nat_tests) in
+        at_place place here ∙ sym (ap (λ b. cond b mark (bit words place)) test)
     | inr other ↦
-      let test : eqb place at ≡ false = grind (arith, nat_tests) in
-      elsewhere place other ∙ sym (ap (λ b. cond b mark (bit words place)) test)
+        let test : eqb place at ≡ false = grind (arith, nat_tests) in
+        elsewhere place other ∙ sym (ap (λ b. cond b mark (bit words place)) test)
   ]
 
   pub changed_words : AreWordsOf places (set words (at / 64) word)
@@ -92,9 +92,9 @@ module _ (places : ℕ) (words : List ℕ) (are : AreWordsOf places words) (at :
       (length-set (marks places words) at mark ∙ length-marks places words)
       (λ place inside. elim (cases_eq place at) [
         | inl here ↦
-          rw here (get_or-set_same (marks places words) at mark false (rw length-marks less)) ∙ sym (at_place place here)
+            rw here (get_or-set_same (marks places words) at mark false (rw length-marks less)) ∙ sym (at_place place here)
         | inr other ↦
-          get_or-set_other (marks places words) at place mark false other ∙ has-marks places words place inside ∙ sym (elsewhere place other)
+            get_or-set_other (marks places words) at place mark false other ∙ has-marks places words place inside ∙ sym (elsewhere place other)
       ])
 
 -- two sets joined place by place
@@ -115,10 +115,10 @@ module _ (places : ℕ) (old other new : List ℕ) (are : AreWordsOf places old)
   joined_marks = marks_are places new (zip2 f (marks places old) (marks places other))
       (length-zip2 f (marks places old) (marks places other) (length-marks places old ∙ sym (length-marks places other)) ∙ length-marks places old)
       (λ place less.
-        get_or-zip2 f (marks places old) (marks places other) place false false false (rw length-marks less) (rw length-marks less)
-        ∙ ap (λ b. f b (has (marks places other) place)) (has-marks places old place less)
-        ∙ ap (f (bit old place)) (has-marks places other place less)
-        ∙ sym (each place (word_of places old are place less)))
+      get_or-zip2 f (marks places old) (marks places other) place false false false (rw length-marks less) (rw length-marks less)
+      ∙ ap (λ b. f b (has (marks places other) place)) (has-marks places old place less)
+      ∙ ap (f (bit old place)) (has-marks places other place less)
+      ∙ sym (each place (word_of places old are place less)))
 
 -- a place of the set is a place of the words
 pub within : (places : ℕ) (words : List ℕ) (set : List Bool) → marks places words ≡ set → (at : ℕ) → at < length set → at < places

@@ -69,7 +69,7 @@ word_ones (suc d) w small =
     let half : w / 2 < 2 ^ d = (let p : 2 ^ suc d ≡ 2 ^ d * 2 = pow-suc 2 d in omega arith) in
     let first : passing (λ i. eqb (bit_at w i) 1) 1 ≡ w % 2 = first_bit w in
     let rest : passing (λ i. eqb (bit_at w (1 + i)) 1) d ≡ count_ones (w / 2) =
-      passing-same (λ i. eqb (bit_at w (1 + i)) 1) (λ i. eqb (bit_at (w / 2) i) 1) d (λ i less. ap (λ m. eqb m 1) (ap (bit_at w) (one-add i) ∙ bit_at-suc w i)) ∙ word_ones d (w / 2) half in
+    passing-same (λ i. eqb (bit_at w (1 + i)) 1) (λ i. eqb (bit_at (w / 2) i) 1) d (λ i less. ap (λ m. eqb m 1) (ap (bit_at w) (one-add i) ∙ bit_at-suc w i)) ∙ word_ones d (w / 2) half in
     ap (passing (λ i. eqb (bit_at w i) 1)) (sym n) ∙ passing-add (λ i. eqb (bit_at w i) 1) 1 d ∙ ap₂ (λ x y. x + y) first rest ∙ sym (ones_step w)
 
 -- the bits of all words
@@ -80,7 +80,7 @@ all_ones words fits (suc k) less =
     let more : 64 * suc k ≡ 64 * k + 64 = omega arith in
     let one : suc k ≡ k + 1 = omega arith in
     let here : passing (λ i. bit words (64 * k + i)) 64 ≡ count_ones w =
-      passing-same (λ i. bit words (64 * k + i)) (λ i. eqb (bit_at w i) 1) 64 (λ i lt. bit_of_word words k i (64 * k + i) lt refl) ∙ word_ones 64 w (fits k).fits in
+    passing-same (λ i. bit words (64 * k + i)) (λ i. eqb (bit_at w i) 1) 64 (λ i lt. bit_of_word words k i (64 * k + i) lt refl) ∙ word_ones 64 w (fits k).fits in
     ap (passing (bit words)) more ∙ passing-add (bit words) (64 * k) 64 ∙ ap₂ (λ x y. x + y) (all_ones words fits k (omega arith)) here
     ∙ sym (ap (λ n. sum_by count_ones (take n words)) one ∙ sum_by_more count_ones words k 0 less)
 

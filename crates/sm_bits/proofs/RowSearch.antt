@@ -58,9 +58,9 @@ module _ (words : List ℕ) (at : ℕ) (room : at + 8 ≤ length words) where
         elim (cases_lt (count_trailing_zeros 64 mask) 8) [
           | inl less ↦ less
           | inr more ↦
-            let none : bit_at mask (count_trailing_zeros 64 mask) ≡ 0 = bit_at_above mask 8 (count_trailing_zeros 64 mask) small more in
-            let one : bit_at mask (count_trailing_zeros 64 mask) ≡ 1 = here.1 in
-            absurd (omega (arith, none, one))
+              let none : bit_at mask (count_trailing_zeros 64 mask) ≡ 0 = bit_at_above mask 8 (count_trailing_zeros 64 mask) small more in
+              let one : bit_at mask (count_trailing_zeros 64 mask) ≡ 1 = here.1 in
+              absurd (omega (arith, none, one))
         ]
 
     pub first_in_row : (from : ℕ) → from ≤ at → ((k : ℕ) → from ≤ k → k < at → get_or words k 0 ≡ 0)

@@ -27,8 +27,8 @@ module _ (f : ℕ → ℕ → ℕ) (at : ℕ) (start words others row : List ℕ
   done_more k less = elim (cases_lt k at) [
     | inl below ↦ get_or-put_chunk_below at words row k 0 below ∙ done k below
     | inr from ↦
-      let e : at + (k - at) ≡ k = omega arith in
-      subst (λ n. get_or (put_chunk at words row) n 0 ≡ f (get_or start n 0) (get_or others n 0)) e (at_row (k - at) (omega arith))
+        let e : at + (k - at) ≡ k = omega arith in
+        subst (λ n. get_or (put_chunk at words row) n 0 ≡ f (get_or start n 0) (get_or others n 0)) e (at_row (k - at) (omega arith))
   ]
 
   pub left_more : (k : ℕ) → at + 8 ≤ k → get_or (put_chunk at words row) k 0 ≡ get_or start k 0

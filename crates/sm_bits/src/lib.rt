@@ -5,6 +5,8 @@
 #![tactic(auto)]
 
 mod map;
+#[cfg(test)]
+mod tests;
 mod words;
 
 pub use map::BitMap;

@@ -9,7 +9,7 @@ use Rattle.sm_bits.proofs.map.BitMap.minus.Goals as goal
 pub subtract-requires-clause-same : goal.subtract-requires-clause-same
 subtract-requires-clause-same c =
     let places : c.other.inside.places ≡ c.self.inside.places =
-      sym (length-marks c.other.inside.places c.other.inside.words.items) ∙ ap length c.other.view_is ∙ c.requires ∙ sym (ap length c.self.view_is) ∙ length-marks c.self.inside.places c.self.inside.words.items in
+    sym (length-marks c.other.inside.places c.other.inside.words.items) ∙ ap length c.other.view_is ∙ c.requires ∙ sym (ap length c.self.view_is) ∙ length-marks c.self.inside.places c.self.inside.words.items in
     ap length c.deref.ensures.value
     ∙ as_many c.self.inside.places c.other.inside.places c.self.inside.words.items c.other.inside.words.items c.self.invariant c.other.invariant places
     ∙ sym (ap length c.deref_mut.ensures.value)
