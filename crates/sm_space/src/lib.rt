@@ -13,6 +13,23 @@ use sm_bits::BitMap;
 use std::alloc::Global;
 use std::marker::Model;
 
+// Makes `free` the numbers that `used` does not have, of `end` places.
+fn free_numbers(free: &mut BitMap, used: &BitMap, end: u32)
+    requires some { 0 < end }
+    requires places { length used.now ≡ end }
+    requires same { length free.old ≡ end }
+    ensures { free.new ≡ free_of used.now }
+{
+    free.clear(0);
+    for number in 1..end {
+        if used.test(number) {
+            free.clear(number);
+        } else {
+            free.set(number);
+        }
+    }
+}
+
 /// The free numbers of the blocks from 1 to a physical size.
 #[derive(Debug, Drop)]
 pub struct Space {
@@ -43,11 +60,7 @@ impl Space {
     {
         let end = used.len();
         let mut free = BitMap::new(alloc, physical + 1)?;
-        for number in 1..end {
-            if !used.test(number) {
-                free.set(number);
-            }
-        }
+        free_numbers(&mut free, used, end);
         let count = free.count();
         Ok(Space {
             free,
@@ -65,6 +78,16 @@ impl Space {
             least: self.least,
             count: self.count,
         })
+    }
+
+    /// Starts anew with the numbers that `used` does not have, a set of as many places as before.
+    pub fn reset(&mut self, used: &BitMap)
+        requires { length used.now ≡ length self.old }
+        ensures { self.new ≡ free_of used.now }
+    {
+        free_numbers(&mut self.free, used, used.len());
+        self.least = 1;
+        self.count = self.free.count();
     }
 
     /// Takes the least free number, if there is one.

@@ -26,5 +26,8 @@ fn a_number_that_was_given_back_is_taken_again(rt: HostRuntime) -> Result<(), Fa
         assert_eq!(rt; space.next_free(from), next, "from {from}");
     }
     assert_eq!(rt; (copy.take(), copy.take()), (Some(2), Some(4)));
+    assert_eq!(rt; space.used() + space.free(), 100);
+    space.reset(&used);
+    assert_eq!(rt; (space.take(), space.used()), (Some(1), 1));
     Ok(())
 }
