@@ -20,6 +20,9 @@ use sm_script::{Command, Script, ScriptFault, read_script};
 use sm_stream::{ReadFault, Sink, Source, read_whole};
 use std::alloc::Global;
 
+/// The greatest length of a script, in bytes.
+const LONGEST_SCRIPT: usize = 16_777_216;
+
 /// The commands of the script, or how the call ends without them.
 fn read_commands<S: Source>(alloc: Global, script: &mut S) -> Result<Script, Status>
     ensures ok { IfOk result (λ commands. Gave (S.left script.old) (S.left script.new) (Ok commands)) }
@@ -30,7 +33,7 @@ fn read_commands<S: Source>(alloc: Global, script: &mut S) -> Result<Script, Sta
     ensures taken { TookAtMost (longest_script + 1) (S.left script.old) (S.left script.new) }
     ensures later { S.fault_count script.old ≤ S.fault_count script.new }
 {
-    let text = match read_whole(alloc, script, 16_777_216) {
+    let text = match read_whole(alloc, script, LONGEST_SCRIPT) {
         Ok(text) => text,
         Err(ReadFault::TooLong) => return Err(Status::ScriptTooLong),
         Err(ReadFault::Failed) => return Err(Status::ReadFault),
