@@ -1,0 +1,4 @@
+pub mod Parts
+pub mod Moments
+pub mod Calls
+pub mod SparedLemmas
