@@ -1,0 +1,14 @@
+use Rattle.std.proofs.Common.{◌≡◌, ℕ, ◌≤◌, drop, length}
+use Rattle.sm_memdisk.specs.Pages.{image_of, KeepsPages}
+use Rattle.sm_memdisk.specs.Log.{undone}
+use Rattle.sm_memdisk.proofs.undo.undo.Given as goal
+
+abbrev pub invariant-loop-i : goal.invariant-loop-i
+invariant-loop-i l = record {
+  within : l.i ≤ length l.log;
+  image : image_of l.pages.entries ≡ undone (drop l.i l.log) (image_of l.initial.pages.entries);
+  kept : KeepsPages l.initial.pages.entries l.pages.entries;
+}
+
+abbrev pub decreases-loop-i : goal.decreases-loop-i
+decreases-loop-i l = l.i

@@ -1,0 +1,9 @@
+pub use Rattle.sm_disk.specs.Image
+pub use Rattle.sm_disk.specs.Disk
+pub mod Past
+pub mod Placed
+pub mod Pages
+pub mod Log
+pub mod Content
+pub mod State
+pub mod Simulated
