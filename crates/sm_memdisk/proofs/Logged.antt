@@ -178,3 +178,13 @@ newest-set log i n long =
     here (y ∷ xs) zero x len = refl
     here (y ∷ []) (suc k) x len = absurd (omega arith)
     here (y ∷ z ∷ xs) (suc k) x len = here (z ∷ xs) k x (omega arith)
+
+undoable_in : (size more : ℕ) (pages : Pages) (deed : Deed) → size ≤ more → IsUndoable size pages deed → IsUndoable more pages deed
+undoable_in size more pages (Written at old) le can = (let room = can.0 in omega arith, can.1)
+undoable_in size more pages Synced le can = can
+
+-- what is pending on a disk is pending on a longer one
+pub pending_in : (size more : ℕ) (pages : Pages) (notes : List Note) → size ≤ more → All (IsPending size pages) notes → All (IsPending more pages) notes
+pending_in size more pages notes le are =
+    All-weaker (IsPending size pages) (IsPending more pages)
+    (λ n is. record { no_restart = is.no_restart; undoable = undoable_in size more pages n.deed le is.undoable }) notes are

@@ -41,19 +41,14 @@ fn raised(count: u64) -> u64
 }
 
 impl MemDisk {
-    ghost use Rattle.std.specs.BTreeSet as set;
     ghost use Rattle.sm_disk.specs.Disk.{IsSynced};
-    ghost use Rattle.sm_memdisk.specs.Simulated.{is_named, stop_names, stop_after, stop_lifted, next_call, counted, raised as raised_once, state_of, IsStarved};
+    ghost use Rattle.sm_memdisk.specs.Simulated.{is_named, stop_names, stop_after, stop_lifted, next_call, with_stop, with_choice, starved_of, counted, raised as raised_once, state_of, IsFresh, IsTold};
 
     /// A disk of this many zeros, with nothing pending. It takes no memory yet.
     pub fn new(alloc: Global, len: u64) -> Result<MemDisk, NoMemory>
         ensures made { IsOk result }
-        ensures size { IfOk result (λ disk. (state_of disk).size ≡ len) }
-        ensures zeros { IfOk result (λ disk. (place : _) → (state_of disk).seen place ≡ 0) }
+        ensures fresh { IfOk result (IsFresh len) }
         ensures synced { IfOk result (λ disk. IsSynced (state_of disk)) }
-        ensures counts { IfOk result (λ disk. (disk.calls ≡ 0) × (disk.faults ≡ 0) × (disk.starved ≡ 0)) }
-        ensures chosen { IfOk result (λ disk. disk.chosen ≡ Image.Old) }
-        ensures none_named { IfOk result (λ disk. (call : _) → is_named disk call ≡ false) }
     {
         Ok(MemDisk {
             store: Store::new(alloc, len),
@@ -68,9 +63,8 @@ impl MemDisk {
 
     /// Lets the call of that number fail, beside those that were named before.
     pub fn fail_at(&mut self, call: u64) -> Result<(), NoMemory>
-        ensures named { OnOk result ((k : _) → is_named self.new k ≡ (is_named self.old k || k == call)) }
-        ensures unchanged { OnErr result ((k : _) → is_named self.new k ≡ is_named self.old k) }
-        ensures rest { self.new ≡ record self.old { failing = self.new.failing } }
+        ensures named { OnOk result (IsTold self.old (λ k. is_named self.old k || k == call) self.new) }
+        ensures unchanged { OnErr result (IsTold self.old (is_named self.old) self.new) }
     {
         self.failing.insert(call)?;
         Ok(())
@@ -79,7 +73,7 @@ impl MemDisk {
     /// Lets that call and all later ones fail, until the first restart after a call that it let
     /// fail. It takes the place of an earlier stop.
     pub fn stop_from(&mut self, call: u64)
-        ensures { self.new ≡ record self.old { stop = Some (record { from = call; has_failed = false }) } }
+        ensures { self.new ≡ with_stop self.old call }
     {
         self.stop = Some(Stop {
             from: call,
@@ -89,14 +83,14 @@ impl MemDisk {
 
     /// Sets what a restart leaves in pending ranges. `Old` is chosen at first.
     pub fn choose(&mut self, image: Image)
-        ensures { self.new ≡ record self.old { chosen = image } }
+        ensures { self.new ≡ with_choice self.old image }
     {
         self.chosen = image;
     }
 
     /// How many writes and syncs found no memory for their record.
     pub fn starved(&self) -> u64
-        ensures { result ≡ self.now.starved }
+        ensures { result ≡ starved_of self.now }
     {
         self.starved
     }
@@ -157,8 +151,7 @@ impl MemDisk {
 impl Disk for MemDisk {
     ghost use Rattle.sm_disk.specs.Image.{part};
     ghost use Rattle.sm_disk.specs.Disk.{Steps, IsQuiet, IsSynced, Wrote, MayHoldAny, IsCounted};
-    ghost use Rattle.sm_memdisk.specs.Content.{DoesWrite, DoesSync, DoesRestart};
-    ghost use Rattle.sm_memdisk.specs.Simulated.{state_of, is_named, next_call, counted, stop_lifted, IsRecorded, IsStarved, HasStarved};
+    ghost use Rattle.sm_memdisk.specs.Simulated.{state_of, is_named, next_call, counted, starved_of, HasWritten, HasSynced, HasRestarted, IsStarved, HasStarved};
 
     ghost state = { state_of };
 
@@ -200,12 +193,12 @@ impl Disk for MemDisk {
 
         // It fails exactly where it is named or starved.
         ensures named { IsTrue (is_named self.old (next_call self.old)) → IsErr result }
-        ensures starved { self.old.starved < self.new.starved → IsErr result }
+        ensures starved { starved_of self.old < starved_of self.new → IsErr result }
         ensures only { OnErr result (IsTrue (is_named self.old (next_call self.old)) ⊎ HasStarved self.old self.new) }
 
         // A write that is named is recorded and pending too.
-        ensures done { OnOk result (IsRecorded self.old self.new × DoesWrite self.old.store at bytes.now self.new.store) }
-        ensures failed { OnErr result ((IsRecorded self.old self.new × DoesWrite self.old.store at bytes.now self.new.store) ⊎ IsStarved self.old self.new) }
+        ensures done { OnOk result (HasWritten self.old at bytes.now self.new) }
+        ensures failed { OnErr result (HasWritten self.old at bytes.now self.new ⊎ IsStarved self.old self.new) }
     {
         let fails = self.fails();
         match self.store.write(at, bytes) {
@@ -232,11 +225,11 @@ impl Disk for MemDisk {
 
         // It fails exactly where it is named or starved.
         ensures named { IsTrue (is_named self.old (next_call self.old)) → IsErr result }
-        ensures starved { self.old.starved < self.new.starved → IsErr result }
+        ensures starved { starved_of self.old < starved_of self.new → IsErr result }
         ensures only { OnErr result (IsTrue (is_named self.old (next_call self.old)) ⊎ HasStarved self.old self.new) }
 
         // A sync that fails leaves no record.
-        ensures done { OnOk result (IsRecorded self.old self.new × DoesSync self.old.store self.new.store) }
+        ensures done { OnOk result (HasSynced self.old self.new) }
         ensures undone { OnErr result ((self.new ≡ counted self.old) ⊎ IsStarved self.old self.new) }
     {
         if self.fails() {
@@ -257,8 +250,7 @@ impl Disk for MemDisk {
         ensures synced { IsSynced (state_of self.new) }
         ensures time { Steps (state_of self.old) (state_of self.new) }
 
-        ensures chosen { DoesRestart self.old.store self.old.chosen self.new.store }
-        ensures rest { self.new ≡ record self.old { store = self.new.store; stop = stop_lifted self.old.stop } }
+        ensures done { HasRestarted self.old self.new }
     {
         self.lift();
         self.store.restart(self.chosen);

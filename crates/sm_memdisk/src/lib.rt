@@ -6,6 +6,8 @@ mod log;
 mod page;
 mod pages;
 mod store;
+#[cfg(test)]
+mod tests;
 mod undo;
 
 pub use disk::MemDisk;

@@ -133,7 +133,7 @@ impl Store {
         let n = self.log.len();
         if n > 0 {
             if self.log[n - 1].is_open() {
-                choose(self.size, &mut self.pages, &self.log[self.settled..], image);
+                choose(&mut self.pages, &self.log[self.settled..], image);
                 self.log[n - 1].follow(image);
                 self.settled = n;
             }

@@ -1,10 +1,11 @@
-use Rattle.std.proofs.Common.{◌≡◌, ℕ, ◌-◌, ◌≤◌, suc, List, length, take, drop, sym, ◌∙◌, ap, subst, arith}
+use Rattle.std.proofs.Common.{◌≡◌, ℕ, ◌-◌, ◌^◌, ◌≤◌, suc, List, length, take, drop, sym, ◌∙◌, ap, subst, arith}
 use Rattle.std.proofs.lemmas.List.{take_all, length-drop}
 use Rattle.sm_memdisk.specs.declared.log.Record.{Record}
 use Rattle.sm_memdisk.specs.Past.{Note}
 use Rattle.sm_memdisk.specs.Pages.{image_of}
 use Rattle.sm_memdisk.specs.Log.{chosen_image}
 use Rattle.sm_memdisk.specs.Content.{Content, DoesRestart}
+use Rattle.sm_memdisk.proofs.Logged.{pending_in}
 use Rattle.sm_memdisk.proofs.Restarts.{restart_lent, restart_again, restart_blank, open_none}
 use Rattle.sm_memdisk.proofs.store.Store.restart.Goals as goal
 
@@ -34,3 +35,14 @@ pub returns-else-n-gt0 : goal.returns-else-n-gt0
 returns-else-n-gt0 c =
     let inside = c.self.inside in
     rw (← c.self.view_is) (restart_blank inside.size inside.pages.entries inside.log.items c.args.image (omega arith))
+
+pub choose-requires : goal.choose-requires
+choose-requires c =
+    let inside = c.self.inside in
+    let log : List Note = inside.log.items in
+    let whole = c.deref.result.now in
+    let rest : take (length whole - inside.settled) (drop inside.settled whole) ≡ drop inside.settled log =
+    take_all _ _ (omega (arith, length-drop inside.settled whole)) ∙ ap (λ (l : List Note). drop inside.settled l) c.deref.ensures.value in
+    let store = c.self.invariant in
+    let le : inside.size ≤ 2 ^ 64 - 1 = let b = store.bounded in omega arith in
+    rw rest (pending_in inside.size (2 ^ 64 - 1) inside.pages.entries (drop inside.settled log) le store.pending)

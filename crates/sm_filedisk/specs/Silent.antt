@@ -1,0 +1,29 @@
+-- A disk that tells nothing of its content.
+use Rattle.std.specs.Prelude.{ℕ, false, IsTrue}
+use Rattle.sm_disk.specs.Disk.{DiskState}
+use Rattle.sm_filedisk.specs.declared.disk.FileDisk.{FileDisk}
+
+abbrev pub len_of : FileDisk → ℕ
+len_of d = d.len
+
+abbrev pub faults_of : FileDisk → ℕ
+faults_of d = d.faults
+
+pub untold : IsTrue false → ⊥
+untold told = cc
+
+abbrev pub silent_state : ℕ → ℕ → DiskState
+silent_state size faults = record {
+  size = size;
+  told = false;
+  seen = λ place. 0;
+  may_leave = λ c. ⊥;
+  moment = 0;
+  left_since = λ t c. ⊥;
+  faults = faults;
+  counts_now = λ t c le may. may;
+  only_now = λ c left. left;
+  since_earlier = λ t u c le left. left;
+  only_told = λ t c left. absurd left;
+  seen_may_stay = λ told. untold told;
+}

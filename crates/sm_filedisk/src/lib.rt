@@ -1,0 +1,8 @@
+//! A file as a block device. It is trusted, and tells nothing of its content.
+#![tactic(auto)]
+
+mod disk;
+#[cfg(test)]
+mod tests;
+
+pub use disk::FileDisk;
