@@ -1,5 +1,5 @@
 -- A disk that tells nothing of its content.
-use Rattle.std.specs.Prelude.{ℕ, false, IsTrue}
+use Rattle.std.specs.Prelude.{◌≡◌, ℕ, ◌+◌, ◌-◌, ◌^◌, min, Bool, false, IsTrue, if◌then◌else◌}
 use Rattle.sm_disk.specs.Disk.{DiskState}
 use Rattle.sm_filedisk.specs.declared.disk.FileDisk.{FileDisk}
 
@@ -27,3 +27,10 @@ silent_state size faults = record {
   only_told = λ t c left. absurd left;
   seen_may_stay = λ told. untold told;
 }
+
+abbrev pub state_of : FileDisk → DiskState
+state_of d = silent_state d.len d.faults
+
+-- the count of faults rose by one exactly where the call failed, but for a count that stands at its end
+abbrev pub Counts : FileDisk → Bool → FileDisk → Type 0
+Counts old succeeded new = new.faults ≡ (if succeeded then old.faults else min (old.faults + 1) (2 ^ 64 - 1))

@@ -69,9 +69,11 @@ fn no_file() -> io::Result<()> {
 }
 
 impl Disk for FileDisk {
-    ghost use Rattle.sm_filedisk.specs.Silent.{silent_state};
+    ghost use Rattle.sm_disk.specs.Image.{part};
+    ghost use Rattle.sm_disk.specs.Disk.{Steps, IsQuiet, IsSynced, Wrote, MayHoldAny, IsCounted};
+    ghost use Rattle.sm_filedisk.specs.Silent.{state_of, Counts};
 
-    ghost state = { λ d. silent_state d.len d.faults };
+    ghost state = { state_of };
 
     fn len(&self) -> u64 {
         self.len
@@ -81,7 +83,16 @@ impl Disk for FileDisk {
         self.faults
     }
 
-    fn read(&mut self, at: u64, into: &mut [u8]) -> Result<(), Failed> {
+    fn read(&mut self, at: u64, into: &mut [u8]) -> Result<(), Failed>
+        requires range { at + length into.old ≤ (state_of self.old).size }
+
+        ensures bytes { OnOk result (IsTrue (state_of self.old).told → into.new ≡ part (state_of self.old).seen at (length into.old)) }
+        ensures quiet { IsQuiet (state_of self.old) (state_of self.new) }
+        ensures time { Steps (state_of self.old) (state_of self.new) }
+        ensures cause { OnErr result (IsCounted (state_of self.old) (state_of self.new)) }
+
+        ensures counts { Counts self.old (is_ok result) self.new }
+    {
         let done = match &self.file {
             Some(file) => file.read_exact_at(into, at),
             None => no_file(),
@@ -89,7 +100,17 @@ impl Disk for FileDisk {
         self.counted(done)
     }
 
-    fn write(&mut self, at: u64, bytes: &[u8]) -> Result<(), Failed> {
+    fn write(&mut self, at: u64, bytes: &[u8]) -> Result<(), Failed>
+        requires range { at + length bytes.now ≤ (state_of self.old).size }
+
+        ensures bytes { OnOk result (IsTrue (state_of self.old).told → part (state_of self.new).seen at (length bytes.now) ≡ bytes.now) }
+        ensures range { Wrote (state_of self.old) at (length bytes.now) (state_of self.new) }
+        ensures pending { OnOk result (MayHoldAny (state_of self.old) at (length bytes.now) (state_of self.new)) }
+        ensures time { Steps (state_of self.old) (state_of self.new) }
+        ensures cause { OnErr result (IsCounted (state_of self.old) (state_of self.new)) }
+
+        ensures counts { Counts self.old (is_ok result) self.new }
+    {
         let done = match &self.file {
             Some(file) => file.write_all_at(bytes, at),
             None => no_file(),
@@ -97,7 +118,16 @@ impl Disk for FileDisk {
         self.counted(done)
     }
 
-    fn sync(&mut self) -> Result<(), Failed> {
+    fn sync(&mut self) -> Result<(), Failed>
+        ensures synced { OnOk result (IsSynced (state_of self.new)) }
+        ensures failed { OnErr result (IsQuiet (state_of self.old) (state_of self.new)) }
+        ensures seen { (state_of self.new).seen ≡ (state_of self.old).seen }
+        ensures images { (c : _) → (state_of self.new).may_leave c → (state_of self.old).may_leave c }
+        ensures time { Steps (state_of self.old) (state_of self.new) }
+        ensures cause { OnErr result (IsCounted (state_of self.old) (state_of self.new)) }
+
+        ensures counts { Counts self.old (is_ok result) self.new }
+    {
         let done = match &self.file {
             Some(file) => file.sync_data(),
             None => no_file(),

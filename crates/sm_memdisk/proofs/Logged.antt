@@ -1,16 +1,15 @@
 -- What a log says of the moments.
-use Rattle.std.proofs.Common.{◌≡◌, ◌⊎◌, inl, inr, ℕ, zero, suc, ◌+◌, ◌-◌, ◌^◌, ◌<◌, ◌≤◌, Bool, true, false, ◌||◌, cond, List, [], ◌∷◌, ◌++◌, length, get_or, set, take, drop, refl, sym, ◌∙◌, ap, subst, arith, append_assoc, replicate, take-append-drop, length-append, length-set}
+use Rattle.std.proofs.Common.{◌≡◌, inl, inr, ℕ, zero, suc, ◌-◌, ◌^◌, ◌<◌, ◌≤◌, Bool, true, false, ◌||◌, cond, List, [], ◌∷◌, ◌++◌, length, get_or, set, take, drop, refl, sym, ◌∙◌, ap, subst, arith, append_assoc, replicate, take-append-drop, length-append, length-set}
 use Rattle.std.specs.Prelude.{Option, Some, None, All, reverse}
 use Rattle.std.proofs.lemmas.List.{reverse-append, length-replicate, get_or-replicate, take-append-le, drop-append-le, take_all, drop_all, take-set}
 use Rattle.std.proofs.lemmas.List.Elements.{All-head, All-tail, All-push, All-weaker, All-nil}
-use Rattle.std.specs.Prelude.{if◌then◌else◌}
 use mathlib.Core.Path.{fun_ext}
 use Rattle.sm_disk.specs.Image.{Image, IsOutside}
 use Rattle.sm_memdisk.specs.declared.Image.{Image as Choice}
 use Rattle.sm_memdisk.specs.declared.Image.TheVariants.{Old, New, Fill}
 use Rattle.sm_memdisk.specs.Past.{Deed, Written, Synced, Note, Moment, over, is_within, settled, before, after, after_restart, now_of, chosen}
 use Rattle.sm_memdisk.specs.Placed.{over_outside, over_inside, where_is, within_outside, within_inside}
-use Rattle.sm_memdisk.specs.Pages.{Pages, IsTouched, KeepsPages}
+use Rattle.sm_memdisk.specs.Pages.{Pages, KeepsPages}
 use Rattle.sm_memdisk.specs.Log.{IsUndoable, IsPending, EndsSettled, undone, fill_one, filled, chosen_image, IsStore}
 
 -- a moment with the range of a write pending too

@@ -1,14 +1,13 @@
 -- What the calls do to the state, from what they do to the content.
-use Rattle.std.proofs.Common.{◌≡◌, ◌⊎◌, inl, inr, ℕ, ◌+◌, ◌-◌, ◌<◌, ◌≤◌, Bool, true, false, ◌||◌, cond, IsTrue, List, [], ◌∷◌, length, refl, sym, ◌∙◌, ap, subst, arith}
+use Rattle.std.proofs.Common.{◌≡◌, inl, inr, ℕ, ◌≤◌, Bool, true, false, ◌||◌, cond, IsTrue, List, ◌∷◌, length, refl, sym, ◌∙◌, ap, subst, arith}
 use Rattle.std.proofs.lemmas.Bool.{cases_Bool}
-use mathlib.Core.Path.{fun_ext}
 use Rattle.sm_disk.specs.Image.{Image, part, SameOutside}
-use Rattle.sm_disk.specs.Disk.{DiskState, GoesOn, Steps, IsQuiet, IsSynced, Wrote, MayHoldAny}
+use Rattle.sm_disk.specs.Disk.{Steps, IsQuiet, IsSynced, Wrote, MayHoldAny}
 use Rattle.sm_memdisk.specs.declared.Image.{Image as Choice}
 use Rattle.sm_memdisk.specs.Past.{Note, Moment, over, is_within, settled, now_of, earlier_of, MayLeave, LeftSince, chosen}
-use Rattle.sm_memdisk.specs.Placed.{over_outside, where_is, within_outside, outside_of, or_left, or_right, pending_or_read}
+use Rattle.sm_memdisk.specs.Placed.{over_outside, within_outside, outside_of, or_left, or_right, pending_or_read}
 use Rattle.sm_memdisk.specs.Content.{Content, seen_of, IsSame, DoesWrite, DoesSync, DoesRestart, restarted}
-use Rattle.sm_memdisk.specs.State.{state_from, meant_by}
+use Rattle.sm_memdisk.specs.State.{meant_by}
 use Rattle.sm_memdisk.proofs.Overs.{part-over}
 use Rattle.sm_memdisk.proofs.Told.{IsRestarted, write_note, write_base, write_pending, write_earlier, sync_now, sync_earlier, chosen_may, restart_moments, now_synced}
 

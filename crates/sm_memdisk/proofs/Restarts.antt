@@ -2,12 +2,12 @@
 use Rattle.std.proofs.Common.{◌≡◌, ℕ, suc, ◌+◌, ◌≤◌, Bool, true, false, List, [], ◌∷◌, length, get_or, set, take, drop, refl, sym, ◌∙◌, ap, subst, arith}
 use Rattle.std.specs.Prelude.{Option, Some, None, reverse, is_none}
 use Rattle.std.proofs.lemmas.List.{get_or_default}
-use Rattle.sm_disk.specs.Image.{Image, part}
+use Rattle.sm_disk.specs.Image.{part}
 use Rattle.sm_disk.proofs.Parts.{length-part}
 use Rattle.sm_memdisk.specs.declared.Image.{Image as Choice}
-use Rattle.sm_memdisk.specs.Past.{Deed, Written, Note, Moment, settled, after_restart, now_of, chosen}
+use Rattle.sm_memdisk.specs.Past.{Deed, Written, Note, now_of}
 use Rattle.sm_memdisk.specs.Pages.{Pages, image_of, IsTouched, KeepsPages}
-use Rattle.sm_memdisk.specs.Content.{Content, seen_of, DoesRestart, noted, restarted}
+use Rattle.sm_memdisk.specs.Content.{Content, DoesRestart, noted, restarted}
 use Rattle.sm_memdisk.specs.Log.{IsUndoable, IsPending, IsReady, IsStore, chosen_image}
 use Rattle.sm_memdisk.proofs.Told.{chosen_settled}
 use Rattle.sm_memdisk.proofs.Logged.{log_chosen, newest, newest-set}

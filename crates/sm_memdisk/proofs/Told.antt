@@ -1,5 +1,5 @@
 -- The moments of a disk through its calls.
-use Rattle.std.proofs.Common.{◌≡◌, ◌⊎◌, inl, inr, ℕ, zero, suc, ◌+◌, ◌-◌, ◌<◌, ◌≤◌, Bool, true, false, ◌||◌, cond, IsTrue, List, [], ◌∷◌, length, get_or, refl, sym, ◌∙◌, ap, subst, arith}
+use Rattle.std.proofs.Common.{◌≡◌, ◌⊎◌, inl, inr, ℕ, ◌-◌, Bool, true, false, ◌||◌, cond, IsTrue, List, [], ◌∷◌, length, refl, sym, ◌∙◌, ap, subst, arith}
 use Rattle.std.specs.Prelude.{Option, Some, None}
 use Rattle.std.proofs.lemmas.Bool.{cases_Bool}
 use mathlib.Core.Path.{fun_ext}
@@ -7,9 +7,9 @@ use Rattle.sm_disk.specs.Image.{Image, part}
 use Rattle.sm_disk.proofs.Parts.{length-part}
 use Rattle.sm_memdisk.specs.declared.Image.{Image as Choice}
 use Rattle.sm_memdisk.specs.declared.Image.TheVariants.{Old, New, Fill}
-use Rattle.sm_memdisk.specs.Past.{Deed, Written, Synced, Note, Moment, over, is_within, settled, before, after, after_restart, with_call, now_of, earlier_of, MayLeave, LeftSince, chosen}
+use Rattle.sm_memdisk.specs.Past.{Deed, Written, Synced, Note, Moment, over, is_within, settled, after, now_of, earlier_of, MayLeave, chosen}
 use Rattle.sm_memdisk.specs.Placed.{over_outside, over_inside, where_is, within_outside, pending_or_read}
-use Rattle.sm_memdisk.specs.Content.{noted, restarted}
+use Rattle.sm_memdisk.specs.Content.{restarted}
 use Rattle.sm_memdisk.proofs.Overs.{put_back, any_default}
 
 -- two images that agree where nothing is pending

@@ -1,5 +1,5 @@
 -- What a disk did, the newest call first, and what that lets a restart leave.
-use Rattle.std.specs.Prelude.{◌≡◌, ◌⊎◌, ℕ, ◌+◌, ◌-◌, ◌≤◌, nat_lt, Bool, true, false, not, ◌&&◌, ◌||◌, IsTrue, List, [], ◌∷◌, length, slice_index_or, Option, Some, None, if◌then◌else◌}
+use Rattle.std.specs.Prelude.{◌≡◌, ◌⊎◌, ℕ, ◌+◌, ◌-◌, ◌≤◌, nat_lt, Bool, false, not, ◌&&◌, ◌||◌, IsTrue, List, [], ◌∷◌, length, slice_index_or, Option, Some, None, if◌then◌else◌}
 use Rattle.sm_disk.specs.Image.{Image}
 use Rattle.sm_memdisk.specs.declared.Image.{Image as Choice}
 use Rattle.sm_memdisk.specs.declared.Image.TheVariants.{Old, New, Fill}

@@ -1,5 +1,5 @@
 -- What a disk in memory means, and which of its calls fail.
-use Rattle.std.specs.Prelude.{◌≡◌, ℕ, ◌+◌, ◌-◌, ◌^◌, ◌≤◌, ◌||◌, nat_le, Bool, true, false, min, List, [], Option, Some, None, if◌then◌else◌}
+use Rattle.std.specs.Prelude.{◌≡◌, ℕ, ◌+◌, ◌-◌, ◌^◌, ◌≤◌, ◌||◌, nat_le, Bool, false, min, List, [], Option, Some, None, if◌then◌else◌}
 use Rattle.std.specs.Ordering.{nat_cmp}
 use Rattle.std.specs.BTreeSet as set
 use Rattle.sm_disk.specs.Disk.{DiskState}
@@ -7,7 +7,7 @@ use Rattle.sm_memdisk.specs.declared.disk.MemDisk.{MemDisk}
 use Rattle.sm_memdisk.specs.declared.disk.Stop.{Stop}
 use Rattle.sm_memdisk.specs.declared.Image.{Image as Choice}
 use Rattle.sm_memdisk.specs.declared.Image.TheVariants.{Old}
-use Rattle.sm_memdisk.specs.Content.{Content, seen_of, IsSame, DoesWrite, DoesSync, DoesRestart}
+use Rattle.sm_memdisk.specs.Content.{seen_of, IsSame, DoesWrite, DoesSync, DoesRestart}
 use Rattle.sm_memdisk.specs.State.{meant_by}
 
 abbrev pub state_of : MemDisk → DiskState

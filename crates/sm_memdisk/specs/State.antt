@@ -1,6 +1,6 @@
 -- The state of a disk that keeps what it did.
-use Rattle.std.specs.Prelude.{◌≡◌, ◌⊎◌, ℕ, ◌+◌, ◌<◌, ◌≤◌, Bool, true, false, IsTrue, refl, List, [], ◌∷◌, length, Option, Some, None}
-use Rattle.std.proofs.Common.{inl, inr, suc, arith, sym, ◌∙◌}
+use Rattle.std.specs.Prelude.{ℕ, ◌≤◌, true, refl, List, [], ◌∷◌, length}
+use Rattle.std.proofs.Common.{inl, inr, arith}
 use Rattle.sm_disk.specs.Image.{Image}
 use Rattle.sm_disk.specs.Disk.{DiskState}
 use Rattle.sm_memdisk.specs.Past.{Moment, Note, MayLeave, LeftSince, now_of, earlier_of}

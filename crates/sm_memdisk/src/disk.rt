@@ -1,6 +1,5 @@
 // A disk in memory, which fails where it is told to.
-ghost use Rattle.std.specs.Prelude.{◌≡◌, ◌⊎◌, ◌+◌, ◌-◌, ◌^◌, ◌<◌, ◌≤◌, ◌||◌, ◌↔◌, ◌==◌, min, length, OnOk, OnErr, IfOk, IsTrue, IsOk, IsErr, Some, None, true, false, if◌then◌else◌};
-ghost use Rattle.std.specs.Ordering.{nat_cmp};
+ghost use Rattle.std.specs.Prelude.{◌≡◌, ◌⊎◌, ◌+◌, ◌-◌, ◌^◌, ◌<◌, ◌≤◌, ◌||◌, ◌↔◌, ◌==◌, min, length, OnOk, OnErr, IfOk, IsTrue, IsOk, IsErr, Some, None, false, if◌then◌else◌};
 
 use crate::Image;
 use crate::store::Store;

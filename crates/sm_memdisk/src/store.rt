@@ -1,7 +1,6 @@
 // The content of a disk and what it did.
-ghost use Rattle.std.specs.Prelude.{◌≡◌, ◌+◌, ◌^◌, ◌<◌, ◌≤◌, ◌∷◌, [], length, OnOk, OnErr, IfOk, None};
+ghost use Rattle.std.specs.Prelude.{◌≡◌, ◌+◌, ◌^◌, ◌<◌, ◌≤◌, [], length, OnOk, OnErr, IfOk, None};
 ghost use Rattle.sm_disk.specs.Image.{part};
-ghost use Rattle.sm_memdisk.specs.Past.{Written, now_of, chosen};
 ghost use Rattle.sm_memdisk.specs.Pages.{image_of, KeepsPages};
 ghost use Rattle.sm_memdisk.specs.Log.{IsReady};
 
@@ -73,7 +72,7 @@ fn prepared(
 }
 
 impl Store {
-    ghost use Rattle.sm_memdisk.specs.Content.{Content, DoesWrite, DoesSync, DoesRestart, IsSame, seen_of};
+    ghost use Rattle.sm_memdisk.specs.Content.{DoesWrite, DoesSync, DoesRestart, IsSame, seen_of};
 
     pub fn new(alloc: Global, size: u64) -> Store
         ensures size { result.size ≡ size }

@@ -1,6 +1,4 @@
 // Each call once, and what a restart leaves.
-ghost use Rattle.std.specs.Prelude.{◌≤◌, ◌+◌, length};
-
 use crate::{Image, MemDisk};
 use sm_base::Failed;
 use sm_disk::Disk;

@@ -1,4 +1,4 @@
-use Rattle.std.proofs.Common.{◌≡◌, ℕ, ◌+◌, ◌-◌, ◌<◌, ◌≤◌, List, length, take, ap, ◌∙◌, arith, replicate}
+use Rattle.std.proofs.Common.{ℕ, ◌+◌, List, ap, ◌∙◌, arith, replicate}
 use Rattle.sm_disk.specs.Image.{Image}
 use Rattle.sm_memdisk.specs.Past.{over}
 use Rattle.sm_memdisk.specs.Pages.{image_of}

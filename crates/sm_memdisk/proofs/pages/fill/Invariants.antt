@@ -1,4 +1,4 @@
-use Rattle.std.proofs.Common.{◌≡◌, ◌+◌, ◌-◌, ◌≤◌, ℕ, ◌<◌}
+use Rattle.std.proofs.Common.{◌≡◌, ◌-◌, ◌≤◌}
 use Rattle.std.specs.Prelude.{replicate}
 use Rattle.sm_memdisk.specs.Past.{over}
 use Rattle.sm_memdisk.specs.Pages.{image_of, IsTouched, KeepsPages}

@@ -1,4 +1,4 @@
-use Rattle.std.proofs.Common.{◌≡◌, ℕ, ◌+◌, ◌-◌, ◌<◌, ◌≤◌, List, length, take, drop, ap, ◌∙◌, arith}
+use Rattle.std.proofs.Common.{◌≡◌, ℕ, ◌+◌, ◌-◌, take, drop, ap, ◌∙◌, arith}
 use Rattle.sm_disk.specs.Image.{Image}
 use Rattle.sm_memdisk.specs.Past.{over}
 use Rattle.sm_memdisk.specs.Pages.{image_of}

@@ -1,4 +1,4 @@
-use Rattle.std.proofs.Common.{◌≡◌, ◌+◌, ◌-◌, ◌≤◌, length, take, ℕ, ◌<◌}
+use Rattle.std.proofs.Common.{◌≡◌, ◌-◌, ◌≤◌, length, take}
 use Rattle.sm_memdisk.specs.Past.{over}
 use Rattle.sm_memdisk.specs.Pages.{image_of, IsTouched, KeepsPages}
 use Rattle.sm_memdisk.proofs.pages.put.Given as goal

@@ -1,8 +1,8 @@
-use Rattle.std.proofs.Common.{◌≡◌, ℕ, ◌+◌, ◌-◌, ◌<◌, ◌≤◌, List, ◌++◌, length, take, ap, sym, ◌∙◌, arith, refl, length-take, length-drop}
+use Rattle.std.proofs.Common.{◌≡◌, ℕ, ◌+◌, ◌-◌, List, ◌++◌, length, ap, sym, ◌∙◌, arith, refl, length-take, length-drop}
 use Rattle.std.proofs.lemmas.Slice.{take-put_mid}
 use Rattle.std.proofs.lemmas.List.{take_all}
 use Rattle.sm_disk.specs.Image.{Image, part}
-use Rattle.sm_disk.proofs.Parts.{length-part, part-append}
+use Rattle.sm_disk.proofs.Parts.{part-append}
 use Rattle.sm_memdisk.specs.Pages.{image_of}
 use Rattle.sm_memdisk.proofs.Overs.{length-put_mid}
 use Rattle.sm_memdisk.proofs.pages.read.Goals as goal

@@ -1,6 +1,5 @@
-use Rattle.std.proofs.Common.{◌≡◌, Some, None, sym, ◌∙◌, ap}
+use Rattle.std.proofs.Common.{sym, ◌∙◌, ap}
 use Rattle.std.specs.Option.{option_copied}
-use Rattle.sm_memdisk.specs.Pages.{page_at}
 use Rattle.sm_memdisk.proofs.Paged.{part-page, part-none}
 use Rattle.sm_memdisk.proofs.pages.read_page.Goals as goal
 

@@ -1,7 +1,3 @@
-use Rattle.std.proofs.Common.{◌≡◌, None, sym, ◌∙◌, false, not}
-use Rattle.std.proofs.lemmas.Grind.{common_steps}
-use Rattle.std.proofs.Common.{arith}
-use Rattle.sm_memdisk.specs.Pages.{page_of}
 use Rattle.sm_memdisk.proofs.Paged.{blank_image, none_there}
 use Rattle.sm_memdisk.proofs.pages.touch_page.Goals as goal
 

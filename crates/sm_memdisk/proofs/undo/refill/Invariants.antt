@@ -1,4 +1,4 @@
-use Rattle.std.proofs.Common.{◌≡◌, ℕ, ◌≤◌, drop, length}
+use Rattle.std.proofs.Common.{◌≡◌, ◌≤◌, drop, length}
 use Rattle.sm_memdisk.specs.Pages.{image_of, KeepsPages}
 use Rattle.sm_memdisk.specs.Log.{filled}
 use Rattle.sm_memdisk.proofs.undo.refill.Given as goal

@@ -1,4 +1,4 @@
-use Rattle.std.proofs.Common.{◌≡◌, ℕ, ◌≤◌, drop, length}
+use Rattle.std.proofs.Common.{◌≡◌, ◌≤◌, drop, length}
 use Rattle.sm_memdisk.specs.Pages.{image_of, KeepsPages}
 use Rattle.sm_memdisk.specs.Log.{undone}
 use Rattle.sm_memdisk.proofs.undo.undo.Given as goal

@@ -1,4 +1,4 @@
-use Rattle.std.proofs.Common.{◌≡◌, ℕ, List, length, ap, ◌∙◌, arith, ◌<◌, ◌≤◌}
+use Rattle.std.proofs.Common.{◌≡◌, ℕ, List, length, ap, ◌∙◌, arith}
 use Rattle.sm_disk.specs.Image.{part}
 use Rattle.sm_disk.proofs.Parts.{part_each}
 use Rattle.sm_memdisk.specs.Pages.{page_image}

@@ -1,4 +1,4 @@
-use Rattle.std.proofs.Common.{◌≡◌, ◌+◌, ◌≤◌, length, get_or, ℕ, ◌<◌}
+use Rattle.std.proofs.Common.{◌≡◌, ◌+◌, get_or, ℕ, ◌<◌}
 use Rattle.sm_memdisk.specs.Pages.{page_image}
 use Rattle.sm_memdisk.proofs.page.Page.read.Given as goal
 

@@ -1,4 +1,4 @@
-use Rattle.std.proofs.Common.{◌≡◌, ℕ, ◌+◌, ◌<◌, ◌∷◌, [], length, get_or, refl, ap, ◌∙◌, arith, length-set}
+use Rattle.std.proofs.Common.{◌≡◌, ◌+◌, ◌∷◌, [], length, get_or, refl, ap, ◌∙◌, arith, length-set}
 use Rattle.sm_disk.specs.Image.{Image}
 use Rattle.sm_memdisk.specs.Past.{over}
 use Rattle.sm_memdisk.proofs.Overs.{over-set, set_more}

@@ -1,4 +1,4 @@
-use Rattle.std.proofs.Common.{◌≡◌, ◌+◌, ◌≤◌, length, take, ℕ, ◌<◌}
+use Rattle.std.proofs.Common.{◌≡◌, length, take}
 use Rattle.sm_memdisk.specs.Past.{over}
 use Rattle.sm_memdisk.specs.Pages.{page_image}
 use Rattle.sm_memdisk.proofs.page.Page.set.Given as goal

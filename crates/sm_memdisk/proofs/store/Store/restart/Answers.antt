@@ -1,10 +1,8 @@
-use Rattle.std.proofs.Common.{◌≡◌, ℕ, ◌-◌, ◌^◌, ◌≤◌, suc, List, length, take, drop, sym, ◌∙◌, ap, subst, arith}
+use Rattle.std.proofs.Common.{◌≡◌, ◌-◌, ◌^◌, ◌≤◌, suc, List, length, take, drop, sym, ◌∙◌, ap, arith}
 use Rattle.std.proofs.lemmas.List.{take_all, length-drop}
-use Rattle.sm_memdisk.specs.declared.log.Record.{Record}
 use Rattle.sm_memdisk.specs.Past.{Note}
 use Rattle.sm_memdisk.specs.Pages.{image_of}
 use Rattle.sm_memdisk.specs.Log.{chosen_image}
-use Rattle.sm_memdisk.specs.Content.{Content, DoesRestart}
 use Rattle.sm_memdisk.proofs.Logged.{pending_in}
 use Rattle.sm_memdisk.proofs.Restarts.{restart_lent, restart_again, restart_blank, open_none}
 use Rattle.sm_memdisk.proofs.store.Store.restart.Goals as goal

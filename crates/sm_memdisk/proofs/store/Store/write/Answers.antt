@@ -1,4 +1,4 @@
-use Rattle.std.proofs.Common.{ap, arith, ◌≡◌}
+use Rattle.std.proofs.Common.{ap, arith}
 use Rattle.sm_memdisk.specs.Content.{Content}
 use Rattle.sm_memdisk.specs.Pages.{KeepsPages}
 use Rattle.sm_memdisk.proofs.Logged.{store_write}
