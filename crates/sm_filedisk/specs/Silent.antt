@@ -1,7 +1,11 @@
 -- A disk that tells nothing of its content.
-use Rattle.std.specs.Prelude.{◌≡◌, ℕ, ◌+◌, ◌-◌, ◌^◌, min, Bool, false, IsTrue, if◌then◌else◌}
+use Rattle.std.specs.Prelude.{◌≡◌, ℕ, ◌+◌, ◌-◌, ◌^◌, min, Bool, false, IsTrue, Option, if◌then◌else◌}
+use Rattle.std.specs.declared.fs.File.{File}
 use Rattle.sm_disk.specs.Disk.{DiskState}
 use Rattle.sm_filedisk.specs.declared.disk.FileDisk.{FileDisk}
+
+abbrev pub file_of : FileDisk → Option File
+file_of d = d.file
 
 abbrev pub len_of : FileDisk → ℕ
 len_of d = d.len

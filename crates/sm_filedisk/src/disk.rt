@@ -1,5 +1,5 @@
 // The calls of a disk, each as one call of the system on the file.
-ghost use Rattle.std.specs.Prelude.{◌≡◌, ◌+◌, ◌-◌, ◌^◌, ◌≤◌, min, is_ok, length, OnOk, OnErr, IfOk, IsTrue, if◌then◌else◌};
+ghost use Rattle.std.specs.Prelude.{◌≡◌, ◌+◌, ◌-◌, ◌^◌, ◌≤◌, min, is_ok, length, OnOk, OnErr, IfOk, IsTrue, Some, if◌then◌else◌};
 
 use sm_base::Failed;
 use sm_disk::Disk;
@@ -19,12 +19,13 @@ pub struct FileDisk {
 }
 
 impl FileDisk {
-    ghost use Rattle.sm_filedisk.specs.Silent.{len_of, faults_of};
+    ghost use Rattle.sm_filedisk.specs.Silent.{file_of, len_of, faults_of};
 
     /// A disk of this file, which was opened for reading and writing. The error is that of asking
     /// for its length.
     pub fn new(file: fs::File) -> io::Result<FileDisk>
-        ensures { IfOk result (λ disk. faults_of disk ≡ 0) }
+        ensures file { IfOk result (λ disk. file_of disk ≡ Some file) }
+        ensures faults { IfOk result (λ disk. faults_of disk ≡ 0) }
     {
         let len = file.metadata()?.len();
         Ok(FileDisk {
