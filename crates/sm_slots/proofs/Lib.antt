@@ -1,0 +1,5 @@
+pub mod Spelled
+pub mod Framed
+pub mod Answer
+pub mod Crash
+pub mod Settled
