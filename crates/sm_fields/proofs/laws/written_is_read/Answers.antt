@@ -1,0 +1,27 @@
+use Rattle.std.proofs.Common.{◌≡◌, ◌<◌, ◌≤◌, ◌+◌, length, Bool, true, false, refl, arith, length-append}
+use Rattle.sm_base.specs.declared.numbers.Ident.{Ident}
+use Rattle.sm_fields.specs.Format.{number, bits32, bits64, text, truth, identity}
+use Rattle.sm_fields.specs.Grammar.{digits, limit, with_length, truth_digits, identity_digits, IsIdentity}
+use Rattle.sm_fields.proofs.Sizes.{length-digits}
+use Rattle.sm_fields.proofs.Spelled.{number_spelled, text_spelled, truth_spelled, identity_spelled}
+use Rattle.sm_fields.proofs.Whole.{spelled_is_read}
+use Rattle.sm_fields.proofs.laws.written_is_read.Goals as goal
+
+length-truth_digits : (v : Bool) → length (truth_digits v) ≡ 1
+length-truth_digits true = refl
+length-truth_digits false = refl
+
+length-identity_digits : (i : Ident) → length (identity_digits i) ≡ 12
+length-identity_digits i = omega (arith, length-append (digits bits32 i.origin) (digits bits64 i.seq), length-digits bits32 i.origin, length-digits bits64 i.seq)
+
+pub returns-clause-numbers : goal.returns-clause-numbers
+returns-clause-numbers c size n at rest lt = spelled_is_read (number size) (λ n. n < limit size) (digits size) (number_spelled size) n at _ rest lt (length-digits size n)
+
+pub returns-clause-texts : goal.returns-clause-texts
+returns-clause-texts c most at t rest le = spelled_is_read (text most) (λ t. length t ≤ most) with_length (text_spelled most) t at (1 + length t) rest le (omega arith)
+
+pub returns-clause-truth_values : goal.returns-clause-truth_values
+returns-clause-truth_values c v at rest = spelled_is_read truth (λ _. Unit {0}) truth_digits truth_spelled v at 1 rest tt (length-truth_digits v)
+
+pub returns-clause-identities : goal.returns-clause-identities
+returns-clause-identities c i at rest fits = spelled_is_read identity IsIdentity identity_digits identity_spelled i at 12 rest fits (length-identity_digits i)

@@ -1,0 +1,10 @@
+pub mod Entries
+pub mod OneSnapshot
+pub mod Tables
+pub mod PartsSpelled
+pub mod Places
+pub mod Apart
+pub mod RootSpelled
+pub mod Decoded
+pub mod Lengths
+pub mod Round
