@@ -1,0 +1,12 @@
+pub use Rattle.sm_disk.specs.Image
+pub use Rattle.sm_disk.specs.Disk
+pub use Rattle.sm_disk.specs.Spared
+pub mod Maps
+pub mod Held
+pub mod Next
+pub mod Snapshot
+pub mod Refusals
+pub mod Commits
+pub mod Opened
+pub mod Worlds
+pub mod Seen

@@ -1,0 +1,69 @@
+ghost use Rattle.std.specs.Prelude.{◌≡◌, Ok, IfOk};
+
+use sm_base::{Block, Ident, Kind, SnapName, VolNo};
+use sm_disk::Disk;
+use sm_memdisk::{Image, MemDisk};
+use sm_volume::{View, Volume, VolumeFault};
+use std::test::Fail;
+
+// A block of one byte.
+fn full(fill: u8) -> Block {
+    Block([fill; 4096])
+}
+
+fn is_full(block: &Block, fill: u8) -> bool {
+    block.0.iter().all(|byte| *byte == fill)
+}
+
+// The length of a disk of two blocks.
+const TWO_BLOCKS: u64 = 25_735_168;
+
+// The volume, or why there is none.
+fn made(
+    answer: Result<Volume<MemDisk>, (MemDisk, VolumeFault)>,
+) -> Result<Volume<MemDisk>, VolumeFault>
+    ensures { IfOk result (λ v. answer ≡ Ok v) }
+{
+    match answer {
+        Ok(volume) => Ok(volume),
+        Err((_, fault)) => Err(fault),
+    }
+}
+
+#[test]
+fn a_write_takes_no_block_that_a_restart_needs(rt: HostRuntime) -> Result<(), Fail> {
+    let alloc = rt.alloc();
+    let disk = MemDisk::new(alloc, TWO_BLOCKS)?;
+    let mut volume = made(Volume::create(alloc, disk, VolNo(0), Kind::Rw, 1, 2))?;
+    volume.write(0, &full(7))?;
+    volume.cp(alloc)?;
+    volume.write(0, &full(8))?;
+    assert_eq!(rt; volume.used(), 2);
+    match volume.write(0, &full(9)) {
+        Err(VolumeFault::NoSpace) => {}
+        _ => return Err("a block was free")?,
+    }
+    volume.cp(alloc)?;
+    assert_eq!(rt; volume.used(), 1);
+    volume.write(0, &full(9))?;
+    let mut disk = volume.into_disk();
+    disk.choose(Image::New);
+    disk.restart();
+    let mut volume = made(Volume::open(alloc, disk, VolNo(0)))?;
+    let mut block = full(0);
+    volume.read(View::Active, 0, &mut block)?;
+    assert!(rt; is_full(&block, 8));
+    Ok(())
+}
+
+#[test]
+fn another_volumes_disk(rt: HostRuntime) -> Result<(), Fail> {
+    let alloc = rt.alloc();
+    let disk = MemDisk::new(alloc, TWO_BLOCKS)?;
+    let volume = made(Volume::create(alloc, disk, VolNo(0), Kind::Rw, 1, 2))?;
+    match Volume::open(alloc, volume.into_disk(), VolNo(1)) {
+        Ok(_) => assert!(rt; false),
+        Err((_, fault)) => assert_eq!(rt; fault, VolumeFault::OtherNumber { found: 0 }),
+    }
+    Ok(())
+}
