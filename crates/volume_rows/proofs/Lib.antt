@@ -1,0 +1,2 @@
+pub mod NoneHas
+pub mod PairFits

@@ -8,11 +8,11 @@ use std::test::Fail;
 use volume_laws::{Call, perform_all};
 
 // A block of one byte.
-fn full(fill: u8) -> Block {
+pub fn full(fill: u8) -> Block {
     Block([fill; 4096])
 }
 
-fn is_full(block: &Block, fill: u8) -> bool {
+pub fn is_full(block: &Block, fill: u8) -> bool {
     block.0.iter().all(|byte| *byte == fill)
 }
 
@@ -20,7 +20,7 @@ fn is_full(block: &Block, fill: u8) -> bool {
 const TWO_BLOCKS: u64 = 25_735_168;
 
 // The volume, or why there is none.
-fn made(
+pub fn made(
     answer: Result<Volume<MemDisk>, (MemDisk, VolumeFault)>,
 ) -> Result<Volume<MemDisk>, VolumeFault>
     ensures { IfOk result (λ v. answer ≡ Ok v) }

@@ -1,0 +1,304 @@
+// A volume against the plain definitions, call after call.
+ghost use Rattle.std.specs.Prelude.{◌≡◌, true, false, Err, OnOk, IfOk};
+ghost use Rattle.std.specs.List.{list_any};
+ghost use Rattle.sm_defs.specs.Words.{Among, same_ident};
+ghost use Rattle.sm_root.specs.declared.root.RootSnapshot.{RootSnapshot};
+ghost use Rattle.sm_volume.specs.declared.faults.VolumeFault.{VolumeFault};
+
+use crate::plain::{Call, Kept, Plain};
+use crate::tests::{full, is_full, made};
+use sm_base::{Ident, Kind, SnapName, VolNo};
+use sm_memdisk::MemDisk;
+use sm_root::{Root, RootSnapshot};
+use sm_volume::{Head, View, Volume, VolumeFault};
+use std::alloc::Global;
+use std::process::Abort;
+use std::test::Fail;
+
+// The length of a disk of six blocks.
+const SIX_BLOCKS: u64 = 25_751_552;
+
+// The identities of the image that landed, of two snapshots of clients and of none.
+const LANDED: Ident = Ident { origin: 7, seq: 3 };
+
+const FIRST: Ident = Ident { origin: 0, seq: 2 };
+
+const SECOND: Ident = Ident { origin: 0, seq: 4 };
+
+const NONE: Ident = Ident { origin: 5, seq: 2 };
+
+// A call, and why it is refused, if it is.
+type Row = (Call, Option<VolumeFault>);
+
+// A destination of two blocks and six physical ones, which holds 5 and 6.
+const BEFORE_OPENING: [Row; 18] = [
+    (Call::Write { at: 0, fill: 1 }, Some(VolumeFault::ReadOnly)),
+    (Call::Cp, Some(VolumeFault::ReadOnly)),
+    (
+        Call::Snapshot {
+            ident: FIRST,
+            name: b"s1",
+        },
+        Some(VolumeFault::ReadOnly),
+    ),
+    (Call::MakeWritable, None),
+    (Call::Write { at: 2, fill: 1 }, Some(VolumeFault::BadBlock)),
+    (Call::Write { at: 0, fill: 1 }, None),
+    (Call::Restart, None),
+    (Call::Write { at: 0, fill: 2 }, None),
+    (Call::Cp, None),
+    (Call::Write { at: 1, fill: 3 }, None),
+    (
+        Call::Snapshot {
+            ident: FIRST,
+            name: b"s1",
+        },
+        None,
+    ),
+    (Call::Write { at: 0, fill: 4 }, None),
+    (
+        Call::Snapshot {
+            ident: SECOND,
+            name: b"s1",
+        },
+        Some(VolumeFault::NameTaken),
+    ),
+    (
+        Call::Snapshot {
+            ident: SECOND,
+            name: b"s2",
+        },
+        None,
+    ),
+    (Call::Write { at: 1, fill: 7 }, None),
+    (Call::Write { at: 1, fill: 8 }, Some(VolumeFault::NoSpace)),
+    (
+        Call::Remove {
+            drops: &[FIRST, NONE],
+        },
+        Some(VolumeFault::NoSnapshot),
+    ),
+    (Call::Remove { drops: &[FIRST] }, None),
+];
+
+const AFTER_OPENING: [Row; 6] = [
+    (
+        Call::Revert {
+            ident: FIRST,
+            drop_newer: false,
+            family: 11,
+        },
+        Some(VolumeFault::NoSnapshot),
+    ),
+    (
+        Call::Revert {
+            ident: SECOND,
+            drop_newer: false,
+            family: 11,
+        },
+        None,
+    ),
+    (
+        Call::Revert {
+            ident: LANDED,
+            drop_newer: true,
+            family: 12,
+        },
+        None,
+    ),
+    (Call::Write { at: 1, fill: 9 }, Some(VolumeFault::ReadOnly)),
+    (Call::MakeWritable, None),
+    (Call::Write { at: 1, fill: 9 }, None),
+];
+
+// Whether a snapshot has the identity.
+fn has_ident(snapshots: &[RootSnapshot], ident: Ident) -> bool
+    ensures { result ≡ list_any (λ s. same_ident s.ident ident) snapshots.now }
+{
+    snapshots.iter().any(|snapshot| {
+        snapshot.ident.origin == ident.origin && snapshot.ident.seq == ident.seq
+    })
+}
+
+// Whether the identity is not new.
+fn is_taken(snapshots: &[RootSnapshot], ident: Ident) -> bool
+    ensures { result ≡ false → (s : RootSnapshot) → Among snapshots.now s → ¬ (s.ident ≡ ident) }
+{
+    has_ident(snapshots, ident)
+}
+
+// A snapshot of an identity that is new.
+fn snapshot(
+    alloc: Global,
+    volume: &mut Volume<MemDisk>,
+    ident: Ident,
+    name: &[u8],
+) -> Result<(), VolumeFault>
+    requires { volume.old.up ≡ true }
+    ensures { (result ≡ Err VolumeFault.DiskFault → ⊥) → volume.new.up ≡ true }
+{
+    if is_taken(volume.root().snapshots.as_slice(), ident) {
+        return Err(VolumeFault::SnapFull);
+    }
+    match SnapName::read(alloc, name) {
+        Ok(name) => volume.snapshot(alloc, ident, name, None, 0, 0),
+        Err(_) => Err(VolumeFault::NoMemory),
+    }
+}
+
+fn call_volume(alloc: Global, volume: &mut Volume<MemDisk>, call: &Call) -> Result<(), VolumeFault>
+    requires { volume.old.up ≡ true }
+    ensures { (result ≡ Err VolumeFault.DiskFault → ⊥) → volume.new.up ≡ true }
+{
+    match call {
+        Call::Write { at, fill } => volume.write(*at, &full(*fill)),
+        Call::Cp => volume.cp(alloc),
+        Call::MakeWritable => volume.make_writable(alloc),
+        Call::Snapshot { ident, name } => snapshot(alloc, volume, *ident, name),
+        Call::Remove { drops } => volume.remove(alloc, drops),
+        Call::Revert {
+            ident,
+            drop_newer,
+            family,
+        } => volume.revert(alloc, *ident, *drop_newer, *family),
+        Call::Restart => restart(volume),
+    }
+}
+
+fn restart(volume: &mut Volume<MemDisk>) -> Result<(), VolumeFault>
+    ensures { (result ≡ Err VolumeFault.DiskFault → ⊥) → volume.new.up ≡ true }
+{
+    volume.restart()?;
+    Ok(())
+}
+
+fn compare_root<R: AllocGlobal + Abort>(rt: &R, root: &Root, plain: &Plain) {
+    assert_eq!(rt; root.kind, plain.kind);
+    assert_eq!(rt; root.family, plain.family);
+    assert_eq!(rt; root.next, plain.next);
+    let snapshots = root.snapshots.as_slice();
+    assert_eq!(rt; snapshots.len(), plain.snapshots.len());
+    for (snapshot, kept) in snapshots.iter().zip(plain.snapshots.iter()) {
+        assert_eq!(rt; snapshot.ident, kept.ident);
+    }
+}
+
+fn compare_image<R: AllocGlobal + Abort>(
+    rt: &R,
+    volume: &mut Volume<MemDisk>,
+    view: View,
+    fills: [u8; 2],
+) -> Result<(), Fail>
+    requires { volume.old.up ≡ true }
+    ensures { OnOk result (volume.new.up ≡ true) }
+{
+    let (mut first, mut second) = (full(255), full(255));
+    volume.read(view, 0, &mut first)?;
+    volume.read(view, 1, &mut second)?;
+    assert!(rt; is_full(&first, fills[0]));
+    assert!(rt; is_full(&second, fills[1]));
+    Ok(())
+}
+
+fn compare_snapshots<R: AllocGlobal + Abort>(
+    rt: &R,
+    volume: &mut Volume<MemDisk>,
+    snapshots: &[Kept],
+) -> Result<(), Fail>
+    requires { volume.old.up ≡ true }
+    ensures { OnOk result (volume.new.up ≡ true) }
+{
+    for kept in snapshots {
+        compare_image(rt, volume, View::Of(kept.ident), kept.fills)?;
+    }
+    Ok(())
+}
+
+// Compares each block that can be read, and what the root tells.
+fn compare<R: AllocGlobal + Abort>(
+    rt: &R,
+    volume: &mut Volume<MemDisk>,
+    plain: &Plain,
+) -> Result<(), Fail>
+    requires { volume.old.up ≡ true }
+    ensures { OnOk result (volume.new.up ≡ true) }
+{
+    compare_root(rt, volume.root(), plain);
+    assert_eq!(rt; volume.used() as usize, plain.used());
+    compare_image(rt, volume, View::Active, plain.active)?;
+    compare_snapshots(rt, volume, &plain.snapshots)
+}
+
+fn run_row<R: AllocGlobal + Abort>(
+    rt: &R,
+    volume: &mut Volume<MemDisk>,
+    plain: &mut Plain,
+    row: &Row,
+) -> Result<(), Fail>
+    requires { volume.old.up ≡ true }
+    ensures { OnOk result (volume.new.up ≡ true) }
+{
+    let (call, refused) = row;
+    match call_volume(rt.alloc(), volume, call) {
+        Err(VolumeFault::DiskFault) => return Err("the disk failed")?,
+        Err(fault) => assert_eq!(rt; Some(fault), *refused, "{call:?}"),
+        Ok(()) => {
+            assert_eq!(rt; None, *refused, "{call:?}");
+            plain.assign(call)?;
+        }
+    }
+    compare(rt, volume, plain)
+}
+
+fn run_rows<R: AllocGlobal + Abort>(
+    rt: &R,
+    volume: &mut Volume<MemDisk>,
+    plain: &mut Plain,
+    rows: &[Row],
+) -> Result<(), Fail>
+    requires { volume.old.up ≡ true }
+    ensures { OnOk result (volume.new.up ≡ true) }
+{
+    for row in rows {
+        run_row(rt, volume, plain, row)?;
+    }
+    Ok(())
+}
+
+// A destination that has taken over an image of two blocks.
+#[tactic(auto, using(crate::proofs::PairFits::pair_fits))]
+fn destination(alloc: Global) -> Result<Volume<MemDisk>, Fail>
+    ensures { IfOk result (λ v. v.up ≡ true) }
+{
+    let disk = MemDisk::new(alloc, SIX_BLOCKS)?;
+    let mut volume = made(Volume::create(alloc, disk, VolNo(0), Kind::Dp, 2, 6))?;
+    volume.land(1, &full(5))?;
+    volume.land(2, &full(6))?;
+    let head = Head {
+        ident: LANDED,
+        name: SnapName::read(alloc, b"landed")?,
+        label: None,
+        time: 0,
+        made: 1,
+    };
+    let map = [1, 2].to_vec(alloc)?;
+    volume.adopt(alloc, head, map, 9, &[])?;
+    Ok(volume)
+}
+
+#[test]
+fn each_call_makes_the_plain_assignment(rt: HostRuntime) -> Result<(), Fail> {
+    let alloc = rt.alloc();
+    let mut volume = destination(alloc)?;
+    let landed = Kept {
+        ident: LANDED,
+        fills: [5, 6],
+    };
+    let mut plain = Plain::new(alloc, 9, landed)?;
+    compare(&rt, &mut volume, &plain)?;
+    run_rows(&rt, &mut volume, &mut plain, &BEFORE_OPENING)?;
+    let mut volume = made(Volume::open(alloc, volume.into_disk(), VolNo(0)))?;
+    plain.active = plain.stable;
+    compare(&rt, &mut volume, &plain)?;
+    run_rows(&rt, &mut volume, &mut plain, &AFTER_OPENING)
+}
