@@ -1,6 +1,0 @@
-use Rattle.sm_volume.specs.Held.{block_at}
-use Rattle.sm_volume.proofs.blocks.read_at.Goals as goal
-
-pub returns-clause-block : goal.returns-clause-block
-unfolding block_at
-returns-clause-block g c = rw c.requires.long at c.read.ensures.bytes

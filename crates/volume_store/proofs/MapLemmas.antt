@@ -1,0 +1,52 @@
+-- Members of lists of maps, and the numbers that they use.
+use Rattle.std.proofs.Common.{◌≡◌, inl, inr, ℕ, zero, suc, ◌<◌, ◌≤◌, List, [], ◌∷◌, length, get_or, map, Bool, true, false, not, ◌||◌, refl, ◌∙◌, ap, arith}
+use Rattle.std.proofs.lemmas.List.{length-map, get_or-map}
+use Rattle.sm_bits.specs.Places.{has}
+use Rattle.sm_defs.specs.Image.{stands}
+use Rattle.sm_defs.specs.Words.{Among}
+use Rattle.sm_space.specs.Free.{free_of}
+use Rattle.volume_store.specs.Maps.{uses, AreUsed, AreFree}
+
+pub among_get : {X : Type 0} (xs : List X) (i : ℕ) (d : X) → i < length xs → Among xs (get_or xs i d)
+among_get [] i d less = absurd (omega arith)
+among_get (x ∷ xs) zero d less = inl refl
+among_get (x ∷ xs) (suc i) d less = inr (among_get xs i d (omega arith))
+
+pub among_map : {X Y : Type 0} (f : X → Y) (xs : List X) (x : X) → Among xs x → Among (map f xs) (f x)
+among_map f [] x is = absurd is
+among_map f (y ∷ ys) x is = elim is [ inl here ↦ inl (ap f here) | inr there ↦ inr (among_map f ys x there) ]
+
+pub length-free_of : (used : List Bool) → length (free_of used) ≡ length used
+length-free_of [] = refl
+length-free_of (hole ∷ numbers) = ap suc (length-map numbers (λ u. not u))
+
+pub has-free_of : (used : List Bool) (n : ℕ) → 1 ≤ n → n < length used → has (free_of used) n ≡ not (has used n)
+has-free_of [] n one less = absurd (omega arith)
+has-free_of (hole ∷ numbers) zero one less = absurd (omega arith)
+has-free_of (hole ∷ numbers) (suc n) one less = get_or-map (λ u. not u) numbers n false false (omega arith)
+
+pub hole-free_of : (used : List Bool) → has (free_of used) 0 ≡ false
+hole-free_of [] = refl
+hole-free_of (hole ∷ numbers) = refl
+
+-- the numbers that a set of used ones leaves free
+pub free_are : (used : List Bool) (physical : ℕ) (maps : List (List ℕ)) → AreUsed used physical maps → AreFree (free_of used) physical maps
+free_are used physical maps are = record {
+  long = length-free_of used ∙ are.long;
+  hole = hole-free_of used;
+  each = λ n one within. has-free_of used n one (rw are.long (omega arith)) ∙ ap not (are.each n within);
+}
+
+-- the numbers of one more map
+pub used_more : (old new : List Bool) (physical : ℕ) (map : List ℕ) (maps : List (List ℕ)) → AreUsed old physical maps → length new ≡ length old
+    → ((n : ℕ) → has new n ≡ (has old n || stands n map)) → AreUsed new physical (map ∷ maps)
+used_more old new physical map maps are long each = record {
+  long = long ∙ are.long;
+  each = λ n within. each n ∙ ap (λ b. b || stands n map) (are.each n within) ∙ or_comm (uses maps n) (stands n map);
+}
+  where
+    or_comm : (a b : Bool) → (a || b) ≡ (b || a)
+    or_comm true true = refl
+    or_comm true false = refl
+    or_comm false true = refl
+    or_comm false false = refl

@@ -1,0 +1,6 @@
+use Rattle.std.proofs.Common.{◌≡◌, ℕ, ◌<◌, slice_index}
+use Rattle.volume_store.specs.declared.reading.TheConstants.{MAGIC}
+use Rattle.volume_store.proofs.reading.first_difference.Given as goal
+
+abbrev pub invariant-loop-at : goal.invariant-loop-at
+invariant-loop-at l = (k : ℕ) → k < l.at → slice_index l.bytes k ≡ slice_index MAGIC k

@@ -1,0 +1,83 @@
+-- A new volume, and what stands on a disk that is opened.
+use Rattle.std.specs.Prelude.{◌≡◌, ◌⊎◌, ℕ, ◌+◌, ◌*◌, ◌<◌, ◌≤◌, ◌≢◌, IsTrue, slice_index, List, [], length, replicate}
+use Rattle.sm_base.specs.declared.numbers.Kind.{Kind}
+use Rattle.sm_base.specs.declared.numbers.VolNo.{VolNo}
+use Rattle.sm_disk.specs.Image.{Image, part}
+use Rattle.sm_disk.specs.Disk.{DiskState}
+use Rattle.sm_root.specs.declared.root.Root.{Root}
+use Rattle.sm_root.specs.Condition.{IsRoot}
+use Rattle.sm_root.specs.Layout.{root_record}
+use Rattle.sm_root.specs.Spelling.{spelling}
+use Rattle.sm_fields.specs.Grammar.{FirstFault}
+use Rattle.volume_store.specs.declared.reading.TheConstants.{MAGIC}
+use Rattle.sm_slots.specs.Stored.{Blank, Record, BadLength, stored, slot_of, slot_start}
+use Rattle.volume_store.specs.declared.faults.VolumeFault.{VolumeFault}
+use Rattle.volume_store.specs.declared.faults.VolumeFault.TheVariants.{DiskSmall, BadRoot, OtherNumber, DiskFault, NoMemory as OutOfMemory}
+use Rattle.volume_store.specs.Maps.{Maps}
+
+-- only holes, and no snapshot; its family is its number
+abbrev pub empty_maps : VolNo → Kind → ℕ → ℕ → Maps
+empty_maps number kind logical physical = record {
+  root = record { number = number; kind = kind; family = number.0; logical = logical; physical = physical; next = 1; stable = replicate logical 0; snapshots = [] };
+  active = replicate logical 0;
+}
+
+-- how many bytes a disk needs
+abbrev pub need : ℕ → ℕ
+need physical = 25726976 + 4096 * physical
+
+-- why no volume is made
+abbrev pub IsCreateFault : DiskState → ℕ → VolumeFault → Type 0
+IsCreateFault s physical fault =
+    ((s.size < need physical) × (fault ≡ DiskSmall (need physical) s.size))
+    ⊎ ((need physical ≤ s.size) × ((fault ≡ OutOfMemory) ⊎ (fault ≡ DiskFault)))
+
+-- the first of eight bytes that differs from the magic word of a root, or 8
+pub record DiffersFirst (bytes : List ℕ) (at : ℕ) : Type 0 where
+  pub within : at ≤ 8
+  pub same : (k : ℕ) → k < at → slice_index bytes k ≡ slice_index MAGIC k
+  pub differs : at < 8 → slice_index bytes at ≢ slice_index MAGIC at
+
+-- the selected record of the image is this root
+pub record IsRootOn (c : Image) (r : Root) : Type 0 where
+  pub good : IsRoot r
+  pub spelled : stored c ≡ Record (spelling r)
+
+-- the selected record of the image is no root: a blank slot is so at its first byte, a length that passes the slot at that
+-- length, after the magic word, and a record at the first byte that fits no root
+abbrev pub IsNoRootOn : Image → ℕ → Type 0
+IsNoRootOn c at =
+    ((stored c ≡ Blank) × (at ≡ 0))
+    ⊎ ((stored c ≡ BadLength) × DiffersFirst (part c (slot_start (slot_of c)) 8) at)
+    ⊎ ((bytes : List ℕ) × (stored c ≡ Record bytes) × FirstFault (root_record (length bytes)) bytes at)
+
+-- what reading the record of a disk may answer in place of a root
+abbrev pub IsReadFault : DiskState → VolumeFault → Type 0
+IsReadFault s DiskFault = Unit {0}
+IsReadFault s OutOfMemory = Unit {0}
+IsReadFault s (BadRoot at) = IsTrue s.told → IsNoRootOn s.seen at
+IsReadFault s _ = ⊥
+
+-- the need of the smallest volume
+abbrev pub least_need : ℕ
+least_need = 25731072
+
+-- Which fault opening a disk answers: each comes only where it is said here, and these places exclude each other.
+abbrev pub IsOpenFault : DiskState → VolNo → VolumeFault → Type 0
+IsOpenFault s number DiskFault = Unit {0}
+IsOpenFault s number OutOfMemory = Unit {0}
+IsOpenFault s number (BadRoot at) = (least_need ≤ s.size) × (IsTrue s.told → IsNoRootOn s.seen at)
+IsOpenFault s number (DiskSmall n len) =
+    (len ≡ s.size)
+    × (((s.size < least_need) × (n ≡ least_need))
+    ⊎ ((least_need ≤ s.size) × (s.size < n) × (IsTrue s.told → (r : Root) × IsRootOn s.seen r × (n ≡ need r.physical))))
+IsOpenFault s number (OtherNumber found) =
+    (least_need ≤ s.size) × (found ≢ number.0) × (IsTrue s.told → (r : Root) × IsRootOn s.seen r × (need r.physical ≤ s.size) × (found ≡ r.number.0))
+IsOpenFault s number _ = ⊥
+
+-- why the root is not that of a volume of this number on a disk of this length
+abbrev pub IsStateFault : Root → VolNo → ℕ → VolumeFault → Type 0
+IsStateFault r number len OutOfMemory = Unit {0}
+IsStateFault r number len (DiskSmall n l) = (len < n) × (n ≡ need r.physical) × (l ≡ len)
+IsStateFault r number len (OtherNumber found) = (need r.physical ≤ len) × (found ≡ r.number.0) × (found ≢ number.0)
+IsStateFault r number len _ = ⊥

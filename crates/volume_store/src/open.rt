@@ -1,0 +1,161 @@
+// A volume is made on a disk, or found there.
+ghost use Rattle.std.specs.Prelude.{◌≡◌, ◌⊎◌, ℕ, ◌≤◌, ◌<◌, true, None, IfOk, IfErr, MatchResult, IsTrue};
+ghost use Rattle.sm_defs.specs.Limits.{most_logical, most_physical};
+ghost use Rattle.sm_disk.specs.Disk.{GoesOn, IsCounted, IsSynced};
+ghost use Rattle.sm_disk.specs.Spared.{Spares};
+ghost use Rattle.sm_slots.specs.Slots.{BehindSlots};
+ghost use Rattle.sm_slots.specs.Stored.{slot_of};
+ghost use Rattle.sm_root.specs.Condition.{IsRoot};
+ghost use Rattle.sm_root.specs.declared.root.Root.{Root};
+ghost use Rattle.volume_store.specs.Held.{Held};
+ghost use Rattle.volume_store.specs.Opened.{empty_maps, need, IsCreateFault, IsOpenFault, IsStateFault, IsRootOn};
+
+use crate::blocks::need_of;
+use crate::faults::VolumeFault;
+use crate::held::Store;
+use crate::reading::read_root;
+use crate::state::State;
+use sm_base::{Kind, NoMemory, VolNo};
+use sm_disk::Disk;
+use sm_root::{Root, encode};
+use sm_slots::Slots;
+use std::alloc::Global;
+
+impl<D: Disk> Store<D> {
+    /// Makes a volume of holes on a disk that may hold anything.
+    ///
+    /// # Errors
+    ///
+    /// The disk comes back with the fault. [`VolumeFault::DiskSmall`] exactly where the disk is
+    /// shorter than the volume needs; it and want of memory leave the disk untouched.
+    pub fn create(
+        alloc: Global,
+        disk: D,
+        number: VolNo,
+        kind: Kind,
+        logical: u32,
+        physical: u32,
+    ) -> Result<Store<D>, (D, VolumeFault)>
+        requires some { 1 ≤ logical }
+        requires few { logical ≤ most_logical }
+        requires room { logical ≤ physical }
+        requires places { physical ≤ most_physical }
+
+        ensures ok { IfOk result (λ v. v ≡ record { disk = v.disk; number = 0; maps = empty_maps number kind logical physical; after = None; up = true }) }
+        ensures large { IfOk result (λ v. need physical ≤ (D.state disk).size) }
+        ensures synced { IfOk result (λ v. IsSynced (D.state v.disk)) }
+        ensures faults { IfErr result (λ e. IsCreateFault (D.state disk) physical e.1) }
+        ensures untouched { IfErr result (λ e. (e.1 ≡ VolumeFault.DiskFault → ⊥) → e.0 ≡ disk) }
+        ensures counted { IfErr result (λ e. e.1 ≡ VolumeFault.DiskFault → IsCounted (D.state disk) (D.state e.0)) }
+        ensures spared { MatchResult result (λ v. Spares BehindSlots (D.state disk) (D.state v.disk)) (λ e. Spares BehindSlots (D.state disk) (D.state e.0)) }
+    {
+        let mut disk = disk;
+        let (need, len) = (need_of(physical), disk.len());
+        if len < need {
+            return Err((disk, VolumeFault::DiskSmall { need, len }));
+        }
+        let state = match State::empty(alloc, number, kind, logical, physical) {
+            Ok(state) => state,
+            Err(NoMemory) => return Err((disk, VolumeFault::NoMemory)),
+        };
+        let bytes = match encode(alloc, state.root()) {
+            Ok(bytes) => bytes,
+            Err(NoMemory) => return Err((disk, VolumeFault::NoMemory)),
+        };
+        match Slots::format(&mut disk, &bytes) {
+            Ok(slots) => Ok(Store {
+                disk,
+                slots,
+                state,
+                after: None,
+                up: true,
+            }),
+            Err(_) => Err((disk, VolumeFault::DiskFault)),
+        }
+    }
+
+    /// Finds a volume on a disk. All that was written before is put onto the medium.
+    ///
+    /// # Errors
+    ///
+    /// The disk comes back with the fault. [`VolumeFault::DiskSmall`] where the disk is shorter than
+    /// the smallest volume needs, or shorter than the root's physical size needs;
+    /// [`VolumeFault::BadRoot`] where the selected record is no root, with its first byte that fits
+    /// none; [`VolumeFault::OtherNumber`] where the root is that of another volume.
+    pub fn open(alloc: Global, disk: D, number: VolNo) -> Result<Store<D>, (D, VolumeFault)>
+        ensures ok { IfOk result (λ v. (r : Root) × (r.number ≡ number)
+            × (v ≡ record { disk = v.disk; number = v.number; maps = record { root = r; active = r.stable }; after = None; up = true })
+            × (IsTrue (D.state disk).told → IsRootOn (D.state disk).seen r)) }
+        ensures faults { IfErr result (λ e. IsOpenFault (D.state disk) number e.1) }
+        ensures counted { IfErr result (λ e. e.1 ≡ VolumeFault.DiskFault → IsCounted (D.state disk) (D.state e.0)) }
+        ensures seen { MatchResult result (λ v. (D.state v.disk).seen ≡ (D.state disk).seen) (λ e. (D.state e.0).seen ≡ (D.state disk).seen) }
+        ensures any_moment { MatchResult result (λ v. GoesOn (D.state disk) (D.state v.disk) (D.state disk).may_leave) (λ e. GoesOn (D.state disk) (D.state e.0) (D.state disk).may_leave) }
+    {
+        let mut disk = disk;
+        match find_on(alloc, &mut disk, number) {
+            Ok((slots, state)) => Ok(Store {
+                disk,
+                slots,
+                state,
+                after: None,
+                up: true,
+            }),
+            Err(fault) => Err((disk, fault)),
+        }
+    }
+}
+
+// The need of the smallest volume.
+const LEAST_NEED: u64 = 25_731_072;
+
+// Finds the slots and the root of a volume.
+fn find_on<D: Disk>(
+    alloc: Global,
+    disk: &mut D,
+    number: VolNo,
+) -> Result<(Slots, State), VolumeFault>
+    ensures ok { IfOk result (λ p. (p.1.active ≡ p.1.root.stable) × (p.1.root.number ≡ number) × (need p.1.root.physical ≤ (D.state disk.old).size)
+        × (IsTrue (D.state disk.old).told → IsRootOn (D.state disk.old).seen p.1.root)) }
+    ensures slot { IfOk result (λ p. (p.0 < 2) × (IsTrue (D.state disk.old).told → p.0 ≡ slot_of (D.state disk.old).seen)) }
+    ensures synced { IfOk result (λ p. IsSynced (D.state disk.new)) }
+    ensures faults { IfErr result (IsOpenFault (D.state disk.old) number) }
+    ensures counted { result ≡ Err VolumeFault.DiskFault → IsCounted (D.state disk.old) (D.state disk.new) }
+    ensures seen { (D.state disk.new).seen ≡ (D.state disk.old).seen }
+    ensures any_moment { GoesOn (D.state disk.old) (D.state disk.new) (D.state disk.old).may_leave }
+{
+    let len = disk.len();
+    if len < LEAST_NEED {
+        return Err(VolumeFault::DiskSmall {
+            need: LEAST_NEED,
+            len,
+        });
+    }
+    disk.sync()?;
+    let slots = match Slots::open(disk) {
+        Ok(slots) => slots,
+        Err(_) => return Err(VolumeFault::DiskFault),
+    };
+    let root = read_root(alloc, disk, &slots)?;
+    let state = found_state(alloc, root, number, len)?;
+    let _slot = slots.slot();
+    Ok((slots, state))
+}
+
+// The state of a root that was read from a disk of this length.
+fn found_state(alloc: Global, root: Root, number: VolNo, len: u64) -> Result<State, VolumeFault>
+    requires { IsRoot root }
+    ensures ok { IfOk result (λ state. (state ≡ record { root = root; active = root.stable }) × (root.number ≡ number) × (need root.physical ≤ len)) }
+    ensures faults { IfErr result (IsStateFault root number len) }
+{
+    let need = need_of(root.physical);
+    if len < need {
+        return Err(VolumeFault::DiskSmall { need, len });
+    }
+    if root.number.0 != number.0 {
+        return Err(VolumeFault::OtherNumber {
+            found: root.number.0,
+        });
+    }
+    let active = root.stable.copy(alloc)?.into_vec();
+    Ok(State::new(alloc, root, active)?)
+}

@@ -1,0 +1,185 @@
+// The maps of a volume and what is known of their numbers, without a disk.
+ghost use Rattle.std.specs.Prelude.{◌≡◌, ◌≢◌, true, false, ℕ, ◌+◌, ◌<◌, ◌≤◌, length, slice_index, slice_set, IfOk, IfNone, OnSome, IfSome, OnOk, OnErr, IsOk, Some, None, List, find, MatchOption};
+ghost use Rattle.std.specs.Option.{option_copied};
+ghost use Rattle.sm_defs.specs.Words.{same_ident, Among};
+ghost use Rattle.sm_defs.specs.Limits.{most_snapshots, last_number};
+ghost use Rattle.volume_store.specs.Refusals.{is_full, used_of, read_refusal, map_seen, has_snapshot};
+ghost use Rattle.volume_store.specs.Next.{next_after};
+ghost use Rattle.sm_root.specs.Condition.{IsRoot};
+ghost use Rattle.volume_store.specs.Maps.{Maps, all_maps, kept_maps, AreMapsOf, uses, IsLeastFree};
+
+use crate::faults::VolumeFault;
+use crate::io::View;
+use crate::marks::{kept_numbers, mark};
+use crate::next::same;
+use sm_base::{Ident, NoMemory};
+use sm_bits::BitMap;
+use sm_root::{Root, RootSnapshot};
+use sm_space::Space;
+use std::alloc::Global;
+use std::marker::Model;
+
+// The number that no client's snapshot reaches.
+const LAST_NUMBER: u64 = 1 << 62;
+
+/// The root of a volume with its active map.
+#[derive(Debug, Drop)]
+pub(crate) struct State {
+    pub(crate) root: Root,
+    pub(crate) active: Vec<u32>,
+    // What the stable map and the snapshots use: a restart needs it.
+    pub(crate) kept: BitMap,
+    pub(crate) space: Space,
+}
+
+impl Model for State {
+    ghost use Rattle.volume_store.specs.Maps.{Maps, AreKept};
+
+    ghost Value = { Maps };
+
+    ghost view = { λ s. record { root = s.root; active = s.active.items } };
+
+    ghost invariant = { λ s. AreKept s.root s.active.items s.kept s.space };
+}
+
+impl State {
+    /// A root with this active map.
+    pub(crate) fn new(alloc: Global, root: Root, active: Vec<u32>) -> Result<State, NoMemory>
+        requires maps { AreMapsOf root.logical root.physical (all_maps root active.items) }
+        requires good { IsRoot root }
+        ensures { IfOk result (λ state. state ≡ record { root = root; active = active.items }) }
+    {
+        let kept = kept_numbers(alloc, &root)?;
+        let mut used = kept.copy(alloc)?;
+        mark(&mut used, &active);
+        let space = Space::new(alloc, root.physical, &used)?;
+        Ok(State {
+            root,
+            active,
+            kept,
+            space,
+        })
+    }
+
+    pub(crate) fn root(&self) -> &Root
+        ensures { result.now ≡ self.now.root }
+    {
+        &self.root
+    }
+
+    /// Whether there is no room for a client's snapshot, or none for one of this identity.
+    pub(crate) fn is_full(&self, ident: Ident) -> bool
+        ensures value { result ≡ is_full self.now.root ident }
+        ensures room { result ≡ false → length self.now.root.snapshots < most_snapshots }
+        ensures counted { result ≡ false → next_after self.now.root ident ≤ last_number }
+    {
+        let next = self.root.next;
+        self.root.snapshots.as_slice().len() == 255
+            || (ident.seq == 2 * next && next == LAST_NUMBER)
+    }
+
+    /// The number at a place of the active map.
+    pub(crate) fn active_at(&self, at: u32) -> u32
+        requires { at < length self.now.active }
+        ensures { result ≡ slice_index self.now.active at }
+    {
+        self.active[at as usize]
+    }
+
+    // A number that a map uses is one of the disk's blocks.
+    pub(crate) fn used_number(&self, number: u32)
+        requires { uses (all_maps self.now.root self.now.active) number ≡ true }
+        ensures { number ≤ self.now.root.physical }
+    {
+        let physical = self.root.physical;
+        prove!(number <= physical);
+    }
+
+    /// The number at a place of the image that is seen.
+    pub(crate) fn number_seen(&self, view: View, at: u32) -> Result<u32, VolumeFault>
+        ensures refused { MatchOption (read_refusal self.now view at) (IsOk result) (λ fault. result ≡ Err fault) }
+        ensures seen { IfOk result (λ n. (numbers : List ℕ) × (map_seen self.now view ≡ Some numbers) × (n ≡ slice_index numbers at)) }
+        ensures within { IfOk result (λ n. n ≤ self.now.root.physical) }
+    {
+        match view {
+            View::Active => number_in(&self.active, at),
+            View::Of(ident) => match snapshot_of_ident(self.root.snapshots.as_slice(), ident) {
+                None => Err(VolumeFault::NoSnapshot),
+                Some(snapshot) => number_in(snapshot.map.as_slice(), at),
+            },
+        }
+    }
+
+    /// How many different numbers the maps use.
+    pub(crate) fn used(&self) -> u32
+        ensures { result ≡ used_of self.now }
+    {
+        self.space.used()
+    }
+
+    /// The least free number, if there is one.
+    pub(crate) fn free_number(&self) -> Option<u32>
+        ensures none { IfNone result (used_of self.now ≡ self.now.root.physical) }
+        ensures some { OnSome result (used_of self.now ≢ self.now.root.physical) }
+        ensures least { IfSome result (IsLeastFree self.now) }
+    {
+        self.space.next_free(1)
+    }
+
+    /// Puts the least free number at a place of the active map. The number that stood there is free
+    /// from then on, where no other map uses it.
+    pub(crate) fn put(&mut self, at: u32, number: u32)
+        requires place { at < length self.old.active }
+        requires least { IsLeastFree self.old number }
+        ensures { self.new ≡ record self.old { active = slice_set self.old.active at number } }
+    {
+        let before = self.active[at as usize];
+        let _ = self.space.take();
+        self.active[at as usize] = number;
+        if before != 0 && !self.kept.test(before) {
+            self.space.give(before);
+        }
+    }
+
+    /// The active map becomes the stable one, as a restart leaves it.
+    pub(crate) fn restart(&mut self)
+        ensures { self.new ≡ record self.old { active = self.old.root.stable } }
+    {
+        self.active.copy_from_slice(self.root.stable.as_slice());
+        self.space.reset(&self.kept);
+    }
+}
+
+// The number at a place of a map.
+fn number_in(numbers: &[u32], at: u32) -> Result<u32, VolumeFault>
+    ensures ok { IfOk result (λ n. n ≡ slice_index numbers.now at) }
+    ensures inside { OnOk result (at < length numbers.now) }
+    ensures bad { OnErr result ((result ≡ Err VolumeFault.BadBlock) × (length numbers.now ≤ at)) }
+{
+    match numbers.get(at as usize) {
+        Some(number) => Ok(*number),
+        None => Err(VolumeFault::BadBlock),
+    }
+}
+
+fn find_snapshot(snapshots: &[RootSnapshot], ident: Ident) -> Option<&RootSnapshot>
+    ensures { option_copied result ≡ find (λ s. same_ident s.ident ident) snapshots.now }
+{
+    snapshots
+        .iter()
+        .find(|snapshot| same(snapshot.ident, ident))
+}
+
+// The snapshot of an identity.
+pub(crate) fn snapshot_of_ident(snapshots: &[RootSnapshot], ident: Ident) -> Option<&RootSnapshot>
+    ensures some { IfSome result (λ s. find (λ t. same_ident t.ident ident) snapshots.now ≡ Some s.now) }
+    ensures among { IfSome result (λ s. Among snapshots.now s.now) }
+    ensures has { OnSome result (has_snapshot snapshots.now ident ≡ true) }
+    ensures none { IfNone result (has_snapshot snapshots.now ident ≡ false) }
+    ensures seen_none { IfNone result (find (λ t. same_ident t.ident ident) snapshots.now ≡ None) }
+{
+    match find_snapshot(snapshots, ident) {
+        Some(snapshot) => Some(snapshot),
+        None => None,
+    }
+}
