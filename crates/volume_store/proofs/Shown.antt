@@ -8,7 +8,7 @@ use Rattle.sm_disk.proofs.Parts.{part-same}
 use Rattle.sm_disk.proofs.Moments.{weaker}
 use Rattle.sm_disk.proofs.Calls.{seen_shows, image_told}
 use Rattle.sm_root.specs.declared.root.Root.{Root}
-use Rattle.sm_root.specs.Condition.{maps_of}
+use Rattle.sm_root.specs.Condition.{IsRoot, maps_of}
 use Rattle.sm_root.specs.Spelling.{spelling}
 use Rattle.sm_slots.proofs.Settled.{selects_spared}
 use Rattle.sm_slots.specs.Stored.{Record, stored, slot_of}
@@ -23,6 +23,7 @@ block-same c d n same = part-same c d (block_start n) 4096 (λ place from below.
 -- the same root, seen against another image with the same blocks
 pub shows_against : (number : ℕ) (root : Root) (d e c : Image) → SameAt BehindSlots d e → Shows number root d c → Shows number root e c
 shows_against number root d e c same shown = record {
+  good = shown.good;
   selects = shown.selects;
   blocks = λ n one is. shown.blocks n one is ∙ sym (block-same d e n same);
 }
@@ -32,15 +33,17 @@ module _ (s : DiskState) (number : ℕ) (root : Root) (firm : (c : Image) → s.
   seen_is told = seen_shows s (λ c. Shows number root s.seen c) firm told
 
   -- the images of a commit
-  pub shows_commit : (bytes : List ℕ) (next : Root) → bytes ≡ spelling next → (c : Image) → IsBeforeOrAfter s number bytes c → Shows number root s.seen c ⊎ Shows (1 - number) next s.seen c
-  shows_commit bytes next is c (inl before) =
+  pub shows_commit : (bytes : List ℕ) (next : Root) → IsRoot next → bytes ≡ spelling next → (c : Image) → IsBeforeOrAfter s number bytes c → Shows number root s.seen c ⊎ Shows (1 - number) next s.seen c
+  shows_commit bytes next good is c (inl before) =
       let from = before.behind in
       let told = image_told s from.0 from.1 in
       inl (record {
+        good = (seen_is told).good;
         selects = record { slot = before.selects.slot; stored = before.selects.stored ∙ (seen_is told).selects.stored };
         blocks = λ n one used. block-same from.0 c n from.2 ∙ (firm from.0 from.1).blocks n one used;
       })
-  shows_commit bytes next is c (inr after) = inr (record {
+  shows_commit bytes next good is c (inr after) = inr (record {
+    good = good;
     selects = record { slot = after.selects.slot; stored = after.selects.stored ∙ ap Record is };
     blocks = λ n one used. block-same s.seen c n after.behind;
   })
@@ -52,14 +55,14 @@ firm_of state v held up c may =
     ⊎_elim (λ shown. shown) (λ after. absurd (subst (λ a. ShowsAfter v.number a (state v.disk).seen c) none after)) (held.images c may)
 
 -- after a commit that failed the images show one of the two
-module _ {D : Type 0} (state : D → DiskState) (v : Held D) (held : IsHeld state v) (up : v.up ≡ true) (next : Maps) (bytes : List ℕ) (is : bytes ≡ spelling next.root)
+module _ {D : Type 0} (state : D → DiskState) (v : Held D) (held : IsHeld state v) (up : v.up ≡ true) (next : Maps) (good : IsRoot next.root) (bytes : List ℕ) (is : bytes ≡ spelling next.root)
     (logical : next.root.logical ≡ v.maps.root.logical) (physical : next.root.physical ≡ v.maps.root.physical)
     (later : D) (spared : Spares BehindSlots (state v.disk) (state later)) (left : (c : Image) → (state later).may_leave c → IsBeforeOrAfter (state v.disk) v.number bytes c) where
   either_left : (c : Image) → (state later).may_leave c → ShowsEither v.number v.maps (Some next) (state later).seen c
   either_left c may = ⊎_elim
       (λ before. inl (shows_against v.number v.maps.root (state v.disk).seen (state later).seen c spared.seen before))
       (λ after. inr (shows_against (1 - v.number) next.root (state v.disk).seen (state later).seen c spared.seen after))
-      (shows_commit (state v.disk) v.number v.maps.root (firm_of state v held up) bytes next.root is c (left c may))
+      (shows_commit (state v.disk) v.number v.maps.root (firm_of state v held up) bytes next.root good is c (left c may))
 
   pub held_failed : (number : ℕ) → number ≡ v.number → IsHeld state (record { disk = later; number = number; maps = v.maps; after = Some next; up = false })
   held_failed number same = record {
@@ -89,6 +92,7 @@ module _ (s w : DiskState) (number : ℕ) (root : Root) (k : ℕ) (one_k : 1 ≤
   pub shows_wrote : (d c : Image) → SameOutside (block_start k) 4096 d c → Shows number root s.seen d → Shows number root s.seen c
   shows_wrote d c outside shown =
       let same : Selects c (slot_of d) (stored d) = selects_spared d c (λ place at. outside place (inl (omega arith))) in record {
+        good = shown.good;
         selects = record { slot = same.slot ∙ shown.selects.slot; stored = same.stored ∙ shown.selects.stored };
         blocks = λ n one used. block-outside d c k n one one_k (other_than n used) outside ∙ shown.blocks n one used;
       }
@@ -96,6 +100,7 @@ module _ (s w : DiskState) (number : ℕ) (root : Root) (k : ℕ) (one_k : 1 ≤
   -- the same against what is read afterwards
   pub shows_read : (c : Image) → Shows number root s.seen c → Shows number root w.seen c
   shows_read c shown = record {
+    good = shown.good;
     selects = shown.selects;
     blocks = λ n one used. shown.blocks n one used ∙ sym (block-outside s.seen w.seen k n one one_k (other_than n used) wrote.seen);
   }
@@ -120,10 +125,10 @@ module _ {D : Type 0} (state : D → DiskState) (v : Held D) (held : IsHeld stat
   wrote_any_moment = weaker (state v.disk) (state later) (state later).may_leave (Shows v.number v.maps.root (state v.disk).seen) time shown_later
 
 -- a disk on which all stands shows what it reads
-pub held_made : {D : Type 0} (state : D → DiskState) (disk : D) (number : ℕ) (maps : Maps) → 25726976 + 4096 * maps.root.physical ≤ (state disk).size → number < 2
+pub held_made : {D : Type 0} (state : D → DiskState) (disk : D) (number : ℕ) (maps : Maps) → IsRoot maps.root → 25726976 + 4096 * maps.root.physical ≤ (state disk).size → number < 2
     → IsSynced (state disk) → (IsTrue (state disk).told → Selects (state disk).seen number (Record (spelling maps.root)))
     → IsHeld state (record { disk = disk; number = number; maps = maps; after = None; up = true })
-held_made state disk number maps room small synced selects = record {
+held_made state disk number maps good room small synced selects = record {
   room = room;
   one_of_two = small;
   as_large = tt;
@@ -131,6 +136,7 @@ held_made state disk number maps room small synced selects = record {
   images = λ c may.
       let same : c ≡ (state disk).seen = synced c may in
       inl (record {
+        good = good;
         selects = subst (λ (x : Image). Selects x number (Record (spelling maps.root))) (sym same) (selects (image_told (state disk) c may));
         blocks = λ n one used. ap (λ (x : Image). block_at x n) same;
       });

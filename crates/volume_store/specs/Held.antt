@@ -6,7 +6,7 @@ use Rattle.sm_defs.specs.Image.{hole}
 use Rattle.sm_disk.specs.Image.{Image, part}
 use Rattle.sm_disk.specs.Disk.{DiskState}
 use Rattle.sm_root.specs.declared.root.Root.{Root}
-use Rattle.sm_root.specs.Condition.{maps_of}
+use Rattle.sm_root.specs.Condition.{IsRoot, maps_of}
 use Rattle.sm_root.specs.Spelling.{spelling}
 use Rattle.sm_slots.specs.Stored.{Record}
 use Rattle.sm_slots.specs.Slots.{Selects}
@@ -31,6 +31,7 @@ pub record Held (D : Type 0) : Type 0 where
 
 -- Image c shows this root, in the record of this number, and in the blocks that it uses it has what d has there.
 pub record Shows (number : ℕ) (root : Root) (d c : Image) : Type 0 where
+  pub good : IsRoot root
   pub selects : Selects c number (Record (spelling root))
   pub blocks : (n : ℕ) → 1 ≤ n → uses (maps_of root) n ≡ true → block_at c n ≡ block_at d n
 

@@ -5,7 +5,8 @@ ghost use Rattle.sm_disk.specs.Image.{IsOutside};
 ghost use Rattle.sm_disk.specs.Spared.{Spares};
 ghost use Rattle.sm_root.specs.Condition.{IsRoot};
 ghost use Rattle.sm_slots.specs.Slots.{BehindSlots};
-ghost use Rattle.volume_store.specs.Held.{Held, Shows, IsOpenBlock, on_disk, fallen, block_at, block_start};
+ghost use Rattle.volume_store.specs.Maps.{AreMapsOf, all_maps};
+ghost use Rattle.volume_store.specs.Held.{Held, IsHeld, Shows, IsOpenBlock, on_disk, fallen, block_at, block_start};
 
 use crate::blocks::{read_at, write_at};
 use crate::faults::VolumeFault;
@@ -39,6 +40,15 @@ impl<D: Disk> Model for Store<D> {
 }
 
 impl<D: Disk> Store<D> {
+    /// What holds of every volume, whenever it is asked.
+    pub fn told(&self)
+        ensures held { IsHeld D.state self.now }
+        ensures good { IsRoot self.now.maps.root }
+        ensures maps { AreMapsOf self.now.maps.root.logical self.now.maps.root.physical (all_maps self.now.maps.root self.now.maps.active) }
+    {
+        let _ = self.state.root();
+    }
+
     // Makes the next state the volume's, by one commit.
     pub(crate) fn commit(&mut self, alloc: Global, next: State) -> Result<(), VolumeFault>
         requires up { self.old.up ≡ true }

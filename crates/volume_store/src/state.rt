@@ -62,7 +62,9 @@ impl State {
     }
 
     pub(crate) fn root(&self) -> &Root
-        ensures { result.now ≡ self.now.root }
+        ensures value { result.now ≡ self.now.root }
+        ensures good { IsRoot result.now }
+        ensures maps { AreMapsOf self.now.root.logical self.now.root.physical (all_maps self.now.root self.now.active) }
     {
         &self.root
     }
