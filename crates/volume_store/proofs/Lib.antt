@@ -5,4 +5,3 @@ pub mod Shown
 pub mod Sound
 pub mod Used
 pub mod Found
-pub mod Together

@@ -56,7 +56,7 @@ firm_of state v held up c may =
 
 -- after a commit that failed the images show one of the two
 module _ {D : Type 0} (state : D → DiskState) (v : Held D) (held : IsHeld state v) (up : v.up ≡ true) (next : Maps) (good : IsRoot next.root) (bytes : List ℕ) (is : bytes ≡ spelling next.root)
-    (logical : next.root.logical ≡ v.maps.root.logical) (physical : next.root.physical ≡ v.maps.root.physical)
+    (logical : next.root.logical ≡ v.maps.root.logical) (physical : next.root.physical ≡ v.maps.root.physical) (numbered : next.root.number ≡ v.maps.root.number)
     (later : D) (spared : Spares BehindSlots (state v.disk) (state later)) (left : (c : Image) → (state later).may_leave c → IsBeforeOrAfter (state v.disk) v.number bytes c) where
   either_left : (c : Image) → (state later).may_leave c → ShowsEither v.number v.maps (Some next) (state later).seen c
   either_left c may = ⊎_elim
@@ -68,7 +68,7 @@ module _ {D : Type 0} (state : D → DiskState) (v : Held D) (held : IsHeld stat
   held_failed number same = record {
     room = rw (spared.any_moment.size) held.room;
     one_of_two = rw same held.one_of_two;
-    as_large = (logical, physical);
+    as_large = (logical, physical, numbered);
     decided = λ yes. absurd (false≢true yes);
     images = λ c may. subst (λ n. ShowsEither n v.maps (Some next) (state later).seen c) (sym same) (either_left c may);
   }

@@ -43,10 +43,10 @@ ShowsAfter number (Some maps) d c = Shows (1 - number) maps.root d c
 abbrev pub ShowsEither : ℕ → Maps → Option Maps → Image → Image → Type 0
 ShowsEither number maps after d c = Shows number maps.root d c ⊎ ShowsAfter number after d c
 
--- the other volume has the same sizes
+-- the other volume has the same sizes and the same number
 abbrev pub IsAsLarge : Option Maps → Root → Type 0
 IsAsLarge None root = Unit {0}
-IsAsLarge (Some maps) root = (maps.root.logical ≡ root.logical) × (maps.root.physical ≡ root.physical)
+IsAsLarge (Some maps) root = (maps.root.logical ≡ root.logical) × (maps.root.physical ≡ root.physical) × (maps.root.number ≡ root.number)
 
 -- Each image of the disk shows the volume, or while a commit's outcome is not known one of the two.
 pub record IsHeld {D : Type 0} (state : D → DiskState) (v : Held D) : Type 0 where

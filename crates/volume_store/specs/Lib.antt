@@ -8,5 +8,3 @@ pub mod Snapshot
 pub mod Refusals
 pub mod Commits
 pub mod Opened
-pub mod Worlds
-pub mod Seen

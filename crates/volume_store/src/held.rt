@@ -55,6 +55,7 @@ impl<D: Disk> Store<D> {
         requires good { IsRoot next.root }
         requires logical { next.root.logical ≡ self.old.maps.root.logical }
         requires physical { next.root.physical ≡ self.old.maps.root.physical }
+        requires numbered { next.root.number ≡ self.old.maps.root.number }
 
         ensures ok { OnOk result (self.new ≡ record self.old { disk = self.new.disk; maps = next; number = 1 - self.old.number }) }
         ensures any_moment { GoesOn (D.state self.old.disk) (D.state self.new.disk) (λ c.

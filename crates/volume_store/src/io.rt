@@ -50,7 +50,8 @@ impl<D: Disk> Store<D> {
         ensures counted { result ≡ Err VolumeFault.DiskFault → IsCounted (D.state self.old.disk) (D.state self.new.disk) }
         ensures unchanged { (fault : VolumeFault) → result ≡ Err fault → (fault ≡ VolumeFault.DiskFault → ⊥) → self.new ≡ self.old }
 
-        // Only the block of the least free number is changed, at any moment.
+        // Where it is not refused there is a free number. Only the block of the least one is changed, at any moment.
+        ensures free { write_refusal self.old.maps at ≡ None → (n : ℕ) × IsLeastFree self.old.maps n }
         ensures spared { (n : ℕ) → IsLeastFree self.old.maps n → Spares (IsOutside (block_start n) 4096) (D.state self.old.disk) (D.state self.new.disk) }
         ensures any_moment { GoesOn (D.state self.old.disk) (D.state self.new.disk)
             (Shows self.old.number self.old.maps.root (D.state self.old.disk).seen) }

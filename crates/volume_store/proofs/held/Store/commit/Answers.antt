@@ -36,5 +36,5 @@ invariant_of-self-in-Err g c =
     let v : Held _ = record { disk = c.self.inside.disk; number = c.self.inside.slots; maps = c.self.inside.state; after = c.self.inside.after; up = c.self.inside.up } in
     let up : v.up ≡ true = ap (λ w. w.up) c.self.view_is ∙ c.requires.up in
     held_failed g.D.Disk.state v c.self.invariant up c.args.next c.requires.good c.deref.result.now (c.deref.ensures.value ∙ c.in_ok-bytes.ensures.spelled ∙ ap spelling c.root.ensures.value)
-    (c.requires.logical ∙ sym (ap (λ w. w.maps.root.logical) c.self.view_is)) (c.requires.physical ∙ sym (ap (λ w. w.maps.root.physical) c.self.view_is))
+    (c.requires.logical ∙ sym (ap (λ w. w.maps.root.logical) c.self.view_is)) (c.requires.physical ∙ sym (ap (λ w. w.maps.root.physical) c.self.view_is)) (c.requires.numbered ∙ sym (ap (λ w. w.maps.root.number) c.self.view_is))
     c.commit.new.disk c.commit.ensures.spared c.commit.ensures.images c.commit.new.self c.in-Err.ensures.same_slot

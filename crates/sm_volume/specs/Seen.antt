@@ -1,8 +1,10 @@
 -- The volume of the definitions that the maps and the blocks of a disk make.
 use Rattle.std.specs.Prelude.{ℕ, List, map}
-use Rattle.sm_defs.specs.Image.{Block, Image}
+use Rattle.sm_defs.specs.Image.{Block, Image, tags}
 use Rattle.sm_defs.specs.Volume.{Volume, Snapshot}
 use Rattle.sm_disk.specs.Image as disk
+use Rattle.sm_base.specs.declared.numbers.VolNo.{VolNo}
+use Rattle.sm_root.specs.declared.root.Root.{Root}
 use Rattle.sm_root.specs.declared.root.RootSnapshot.{RootSnapshot}
 use Rattle.volume_store.specs.Held.{bytes_at}
 use Rattle.volume_store.specs.Maps.{Maps}
@@ -29,4 +31,20 @@ volume_of path disk c m = record {
   active = image_of c m.active;
   stable = image_of c m.root.stable;
   snapshots = map (seen_snapshot c) m.root.snapshots;
+}
+
+-- the other way round: what a disk keeps of a volume beside its blocks
+abbrev pub kept_snapshot : Snapshot → RootSnapshot
+kept_snapshot s = record { ident = s.ident; name = s.name; label = s.label; time = s.time; made = s.maker; map = tags s.image }
+
+abbrev pub root_of : VolNo → Volume → Root
+root_of number v = record {
+  number = number;
+  kind = v.kind;
+  family = v.family;
+  logical = v.logical;
+  physical = v.physical;
+  next = v.next;
+  stable = tags v.stable;
+  snapshots = map kept_snapshot v.snapshots;
 }

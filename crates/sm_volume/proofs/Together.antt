@@ -4,7 +4,7 @@ use Rattle.std.proofs.lemmas.Bool.{cases_eq}
 use Rattle.sm_disk.specs.Image.{Image}
 use Rattle.sm_disk.specs.Disk.{DiskState, GoesOn}
 use Rattle.sm_disk.proofs.Moments.{each}
-use Rattle.volume_store.specs.Worlds.{Disks, BeforeOrAfter}
+use Rattle.sm_volume.specs.Worlds.{Disks, BeforeOrAfter}
 
 -- Three facts make one event: the disks that do not commit keep their part, the one that commits shows its part before or after,
 -- and what a restart at the end leaves of the others shows their part after.

@@ -1,0 +1,4 @@
+pub mod Together
+pub mod BlockLemmas
+pub mod SeenLemmas
+pub mod MountedLemmas

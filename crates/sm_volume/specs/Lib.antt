@@ -1,0 +1,13 @@
+pub use Rattle.sm_disk.specs.Image
+pub use Rattle.sm_disk.specs.Disk
+pub use Rattle.sm_disk.specs.Spared
+pub use Rattle.volume_store.specs.Held
+pub use Rattle.volume_store.specs.Maps
+pub use Rattle.volume_store.specs.Opened
+pub mod Seen
+pub mod Mounted
+pub mod Shown
+pub mod Assigned
+pub mod Refusals
+pub mod Commits
+pub mod Worlds

@@ -1,0 +1,47 @@
+// A volume, and what holds of it.
+ghost use Rattle.std.specs.Prelude.{◌≡◌, ◌+◌, ◌*◌, ◌≤◌, true, None};
+
+use sm_disk::Disk;
+use sm_root::Root;
+use std::marker::Model;
+use volume_store::Store;
+
+/// A write-anywhere volume on a disk.
+#[derive(Drop)]
+pub struct Volume<D: Disk> {
+    pub(crate) store: Store<D>,
+}
+
+impl<D: Disk> Model for Volume<D> {
+    ghost use Rattle.sm_volume.specs.Mounted.{Mounted, mounted};
+
+    ghost Value = { Mounted D };
+
+    ghost view = { λ s. mounted D.state s.store };
+}
+
+impl<D: Disk> Volume<D> {
+    ghost use Rattle.sm_defs.specs.Volume.{used};
+    ghost use Rattle.sm_volume.specs.Seen.{root_of};
+
+    /// What the disk keeps of the volume beside its blocks.
+    pub fn root(&self) -> &Root
+        ensures { result.now ≡ root_of self.now.number self.now.volume }
+    {
+        self.store.root()
+    }
+
+    /// How many physical blocks the active image, the stable one and the snapshots use.
+    pub fn used(&self) -> u32
+        ensures { result ≡ used self.now.volume }
+    {
+        self.store.used()
+    }
+
+    /// The disk.
+    pub fn into_disk(self) -> D
+        ensures { result ≡ self.disk }
+    {
+        self.store.into_disk()
+    }
+}
