@@ -28,6 +28,9 @@ of_root root k b h e = by (stands k root.stable) (uses (map map_of root.snapshot
     by true r b h e = refl
     by false r b h e = sym e ∙ h
 
+pub seen_again : (path : List ℕ) (number selected : ℕ) (m : Maps) (d c : disk.Image) → store.Shows selected m.root d c → volume_of path number c (store.restarted m) ≡ opened (volume_of path number d m)
+seen_again path number selected m d c shown = volume_used path number d c (store.restarted m) (λ k h. bytes_same d c k (λ from. shown.blocks k from (of_root m.root k (uses (maps_of m.root) k) h refl)))
+
 -- an image that shows the root shows the volume
 pub shows_seen : (path : List ℕ) (number selected : ℕ) (m : Maps) (d c : disk.Image) → store.Shows selected m.root d c → Selects selected m.root.number (volume_of path number d m) c
 shows_seen path number selected m d c shown = record {
@@ -36,8 +39,7 @@ shows_seen path number selected m d c shown = record {
     root = m.root;
     is_root = record { good = shown.good; spelled = shown.selects.stored };
     numbered = refl;
-    same = volume_used path number d c (record { root = m.root; active = m.root.stable })
-        (λ k h. bytes_same d c k (λ from. shown.blocks k from (of_root m.root k (uses (maps_of m.root) k) h refl)));
+    same = seen_again path number selected m d c shown;
   };
 }
 

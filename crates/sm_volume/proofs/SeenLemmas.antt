@@ -104,3 +104,16 @@ up_to_by false c s us ts e = ap (λ (vs : List Snapshot). seen_snapshot c s ∷ 
 pub up_to_seen : (c : disk.Image) (i : Ident) (ss : List RootSnapshot) → up_to (λ (s : Snapshot). same_ident s.ident i) (map (seen_snapshot c) ss) ≡ map (seen_snapshot c) (up_to (λ (s : RootSnapshot). same_ident s.ident i) ss)
 up_to_seen c i [] = refl
 up_to_seen c i (s ∷ ss) = up_to_by (same_ident s.ident i) c s (up_to (λ (t : Snapshot). same_ident t.ident i) (map (seen_snapshot c) ss)) (up_to (λ (t : RootSnapshot). same_ident t.ident i) ss) (up_to_seen c i ss)
+
+pub all_images : (path : List ℕ) (number : ℕ) (c : disk.Image) (m : Maps) → images_of (volume_of path number c m) ≡ map (image_of c) (all_maps m.root m.active)
+all_images path number c m = ap (λ (images : List Image). image_of c m.active ∷ image_of c m.root.stable ∷ images) (images_seen c m.root.snapshots)
+
+pub all_tags : (path : List ℕ) (number : ℕ) (c : disk.Image) (m : Maps) → map tags (images_of (volume_of path number c m)) ≡ all_maps m.root m.active
+all_tags path number c m = ap (map tags) (all_images path number c m) ∙ each (all_maps m.root m.active)
+  where
+    each : (maps : List (List ℕ)) → map tags (map (image_of c) maps) ≡ maps
+    each [] = refl
+    each (ms ∷ maps) =
+        let here = tags_seen c ms in
+        let rest = each maps in
+        cc

@@ -7,6 +7,8 @@ pub use Rattle.volume_store.specs.Opened
 pub mod Seen
 pub mod Mounted
 pub mod Shown
+pub mod Kept
+pub mod Restarted
 pub mod Assigned
 pub mod Refusals
 pub mod Commits

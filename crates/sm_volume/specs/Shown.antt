@@ -1,6 +1,8 @@
 -- What the images of a disk show of a volume, and which blocks a run of calls leaves alone.
 use Rattle.std.specs.Prelude.{◌≡◌, ◌⊎◌, ◌-◌, ℕ, ◌≤◌, List, Option, Some, None}
 use Rattle.sm_base.specs.declared.numbers.VolNo.{VolNo}
+use Rattle.sm_base.specs.declared.numbers.Side.{Side}
+use Rattle.sm_base.specs.declared.numbers.Side.TheVariants.{Before, After}
 use Rattle.sm_defs.specs.Image.{Block}
 use Rattle.sm_defs.specs.Volume.{Volume}
 use Rattle.sm_defs.specs.Words.{Among}
@@ -32,6 +34,11 @@ SelectsAfter selected number (Some v) c = Selects (1 - selected) number v c
 -- the volume as it is selected, or the one of a commit whose outcome is not known
 abbrev pub SelectsEither : {D : Type 0} → Mounted D → Image → Type 0
 SelectsEither v c = Selects v.selected v.number v.volume c ⊎ SelectsAfter v.selected v.number v.after c
+
+-- the image selects the volume of this side
+abbrev pub SelectsSide : {D : Type 0} → Side → Mounted D → Image → Type 0
+SelectsSide Before v c = Selects v.selected v.number v.volume c
+SelectsSide After v c = SelectsAfter v.selected v.number v.after c
 
 -- these blocks have in c what they have in d, but for those that change
 abbrev pub SameBlocks : (ℕ → Type 0) → Image → Image → Type 0

@@ -32,6 +32,7 @@ impl<D: Disk> Volume<D> {
         ensures blocks { (n : ℕ) → IsLeastFree self.old.volume n → KeepsBlocks (λ k. k ≡ n) (D.state self.old.disk) (D.state self.new.disk) }
         ensures any_moment { GoesOn (D.state self.old.disk) (D.state self.new.disk) (Selects self.old.selected self.old.number self.old.volume) }
     {
+        self.store.told();
         self.store.write(at, block)
     }
 
@@ -67,6 +68,7 @@ impl<D: Disk> Volume<D> {
         ensures blocks { KeepsBlocks (λ k. k ≡ number) (D.state self.old.disk) (D.state self.new.disk) }
         ensures any_moment { GoesOn (D.state self.old.disk) (D.state self.new.disk) (Selects self.old.selected self.old.number self.old.volume) }
     {
+        self.store.told();
         self.store.land(number, block)
     }
 

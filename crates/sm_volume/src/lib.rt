@@ -9,6 +9,9 @@
 #![tactic(auto)]
 
 mod calls;
+mod io;
+mod open;
+mod restart;
 mod volume;
 
 pub use volume::Volume;

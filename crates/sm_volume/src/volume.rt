@@ -1,5 +1,5 @@
 // A volume, and what holds of it.
-ghost use Rattle.std.specs.Prelude.{◌≡◌, ◌+◌, ◌*◌, ◌≤◌, true, None};
+ghost use Rattle.std.specs.Prelude.{◌≡◌};
 
 use sm_disk::Disk;
 use sm_root::Root;
@@ -23,6 +23,14 @@ impl<D: Disk> Model for Volume<D> {
 impl<D: Disk> Volume<D> {
     ghost use Rattle.sm_defs.specs.Volume.{used};
     ghost use Rattle.sm_volume.specs.Seen.{root_of};
+    ghost use Rattle.sm_volume.specs.Kept.{IsKept};
+
+    /// What holds of every volume, whenever it is asked.
+    pub fn told(&self)
+        ensures { IsKept D.state self.now }
+    {
+        self.store.told();
+    }
 
     /// What the disk keeps of the volume beside its blocks.
     pub fn root(&self) -> &Root

@@ -1,0 +1,11 @@
+use Rattle.std.proofs.Common.{[], sym, ◌∙◌, ap}
+use Rattle.sm_defs.specs.Volume.{used}
+use Rattle.sm_volume.specs.Mounted.{Mounted, mounted}
+use Rattle.sm_volume.proofs.SeenLemmas.{used_seen}
+use Rattle.sm_volume.proofs.volume.Volume.used.Goals as goal
+
+pub returns : goal.returns
+returns g c =
+    let state = g.D.Disk.state in
+    let old = c.self.inside.store in
+    c.used.ensures ∙ sym (used_seen [] 0 (state old.disk).seen old.maps) ∙ ap (λ (v : Mounted _). used v.volume) c.self.view_is

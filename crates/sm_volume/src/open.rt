@@ -1,0 +1,74 @@
+// A volume is made on a disk, or found there.
+ghost use Rattle.std.specs.Prelude.{◌≡◌, ◌≤◌, true, [], None, IfOk, IfErr, MatchResult, IsTrue};
+ghost use Rattle.sm_defs.specs.Limits.{most_logical, most_physical};
+ghost use Rattle.sm_defs.specs.Volume.{new_volume};
+ghost use Rattle.sm_disk.specs.Disk.{GoesOn, IsCounted, IsSynced};
+ghost use Rattle.volume_store.specs.Opened.{need, IsCreateFault, IsOpenFault};
+ghost use Rattle.sm_volume.specs.Mounted.{Mounted, opened};
+ghost use Rattle.sm_volume.specs.Shown.{Selects, KeepsBlocks, NoBlock};
+
+use crate::volume::Volume;
+use sm_base::{Kind, VolNo};
+use sm_disk::Disk;
+use std::alloc::Global;
+use volume_store::{Store, VolumeFault};
+
+impl<D: Disk> Volume<D> {
+    /// Makes a volume of holes on a disk that may hold anything.
+    ///
+    /// # Errors
+    ///
+    /// The disk comes back with the fault. [`VolumeFault::DiskSmall`] exactly where the disk is
+    /// shorter than the volume needs; it and want of memory leave the disk untouched.
+    pub fn create(
+        alloc: Global,
+        disk: D,
+        number: VolNo,
+        kind: Kind,
+        logical: u32,
+        physical: u32,
+    ) -> Result<Volume<D>, (D, VolumeFault)>
+        requires some { 1 ≤ logical }
+        requires few { logical ≤ most_logical }
+        requires room { logical ≤ physical }
+        requires places { physical ≤ most_physical }
+
+        ensures ok { IfOk result (λ v. v ≡ record { disk = v.disk; number = number; selected = 0; volume = new_volume [] 0 kind number.0 logical physical; after = None; up = true }) }
+        ensures large { IfOk result (λ v. need physical ≤ (D.state disk).size) }
+        ensures synced { IfOk result (λ v. IsSynced (D.state v.disk)) }
+        ensures faults { IfErr result (λ e. IsCreateFault (D.state disk) physical e.1) }
+        ensures untouched { IfErr result (λ e. (e.1 ≡ VolumeFault.DiskFault → ⊥) → e.0 ≡ disk) }
+        ensures counted { IfErr result (λ e. e.1 ≡ VolumeFault.DiskFault → IsCounted (D.state disk) (D.state e.0)) }
+        ensures blocks { MatchResult result (λ v. KeepsBlocks NoBlock (D.state disk) (D.state v.disk)) (λ e. KeepsBlocks NoBlock (D.state disk) (D.state e.0)) }
+    {
+        match Store::create(alloc, disk, number, kind, logical, physical) {
+            Ok(store) => Ok(Volume { store }),
+            Err(fault) => Err(fault),
+        }
+    }
+
+    /// Finds a volume on a disk. All that was written before is put onto the medium.
+    ///
+    /// # Errors
+    ///
+    /// The disk comes back with the fault. [`VolumeFault::DiskSmall`] where the disk is shorter than
+    /// the smallest volume needs, or shorter than the root's physical size needs;
+    /// [`VolumeFault::BadRoot`] where the selected record is no root, with its first byte that fits
+    /// none; [`VolumeFault::OtherNumber`] where the root is that of another volume.
+    pub fn open(alloc: Global, disk: D, number: VolNo) -> Result<Volume<D>, (D, VolumeFault)>
+        ensures ok { IfOk result (λ v. (v ≡ record v { number = number; after = None; up = true }) × (v.volume ≡ opened v.volume)
+            × (IsTrue (D.state disk).told → Selects v.selected number v.volume (D.state disk).seen)) }
+        ensures faults { IfErr result (λ e. IsOpenFault (D.state disk) number e.1) }
+        ensures counted { IfErr result (λ e. e.1 ≡ VolumeFault.DiskFault → IsCounted (D.state disk) (D.state e.0)) }
+        ensures seen { MatchResult result (λ v. (D.state v.disk).seen ≡ (D.state disk).seen) (λ e. (D.state e.0).seen ≡ (D.state disk).seen) }
+        ensures any_moment { MatchResult result (λ v. GoesOn (D.state disk) (D.state v.disk) (D.state disk).may_leave) (λ e. GoesOn (D.state disk) (D.state e.0) (D.state disk).may_leave) }
+    {
+        match Store::open(alloc, disk, number) {
+            Ok(store) => {
+                store.told();
+                Ok(Volume { store })
+            }
+            Err(fault) => Err(fault),
+        }
+    }
+}
