@@ -1,7 +1,7 @@
 -- Which maps can be adopted, and what becomes of the volume.
-use Rattle.std.proofs.Common.{◌≡◌, ◌⊎◌, inl, inr, ⊎_elim, ℕ, ◌<◌, ◌≤◌, nat_lt, not, cond, List, [], ◌∷◌, ◌++◌, map, slice_index, length, refl, sym, ap, ◌∙◌, subst, Option, Some, None}
+use Rattle.std.proofs.Common.{◌≡◌, inr, ⊎_elim, ℕ, ◌<◌, ◌≤◌, nat_lt, not, cond, List, [], ◌∷◌, ◌++◌, map, slice_index, length, sym, ap, ◌∙◌, subst, Some, None}
 use Rattle.sm_base.specs.declared.numbers.Ident.{Ident}
-use Rattle.sm_defs.specs.Image.{Image, tags}
+use Rattle.sm_defs.specs.Image.{tags}
 use Rattle.sm_defs.specs.Limits.{most_snapshots}
 use Rattle.sm_defs.specs.Volume.{Snapshot, Volume}
 use Rattle.sm_defs.specs.Words.{Among, has_ident}
@@ -9,7 +9,6 @@ use Rattle.sm_disk.specs.Image as disk
 use Rattle.sm_root.specs.declared.root.RootSnapshot.{RootSnapshot}
 use Rattle.sm_root.specs.Condition.{map_of}
 use Rattle.std.proofs.lemmas.List.{map-append}
-use Rattle.volume_store.specs.declared.faults.VolumeFault.{VolumeFault}
 use Rattle.volume_store.specs.declared.faults.VolumeFault.TheVariants.{SnapFull}
 use Rattle.volume_store.specs.declared.head.Head.{Head}
 use Rattle.volume_store.specs.Maps.{Maps, AreMapsOf, all_maps}
@@ -51,14 +50,14 @@ module _ (c : disk.Image) (m : Maps) (ms : List ℕ) (drops : List Ident) (maps 
     within = λ x is i. ⊎_elim (λ e. subst (λ (xs : List ℕ). slice_index xs i ≤ m.root.physical) (sym e) (can.within i)) (λ old. maps.within x (is_old x old) i) is;
     one_place = λ x y i j is_x is_y same some. ⊎_elim
         (λ ex. ⊎_elim
-            (λ ey. can.once i j (ap (λ (xs : List ℕ). slice_index xs i) (sym ex) ∙ same ∙ ap (λ (xs : List ℕ). slice_index xs j) ey) (subst (λ (xs : List ℕ). 0 < slice_index xs i) ex some))
-            (λ old. new_with_old y i j old (ap (λ (xs : List ℕ). slice_index xs i) (sym ex) ∙ same) (subst (λ (xs : List ℕ). 0 < slice_index xs i) ex some))
-            is_y)
+        (λ ey. can.once i j (ap (λ (xs : List ℕ). slice_index xs i) (sym ex) ∙ same ∙ ap (λ (xs : List ℕ). slice_index xs j) ey) (subst (λ (xs : List ℕ). 0 < slice_index xs i) ex some))
+        (λ old. new_with_old y i j old (ap (λ (xs : List ℕ). slice_index xs i) (sym ex) ∙ same) (subst (λ (xs : List ℕ). 0 < slice_index xs i) ex some))
+        is_y)
         (λ old. ⊎_elim
-            (λ ey. let back : slice_index ms j ≡ slice_index x i = ap (λ (xs : List ℕ). slice_index xs j) (sym ey) ∙ sym same in
-            sym (new_with_old x j i old back (subst (λ (k : ℕ). 0 < k) (sym back) some)))
-            (λ old_y. maps.one_place x y i j (is_old x old) (is_old y old_y) same some)
-            is_y)
+        (λ ey. let back : slice_index ms j ≡ slice_index x i = ap (λ (xs : List ℕ). slice_index xs j) (sym ey) ∙ sym same in
+        sym (new_with_old x j i old back (subst (λ (k : ℕ). 0 < k) (sym back) some)))
+        (λ old_y. maps.one_place x y i j (is_old x old) (is_old y old_y) same some)
+        is_y)
         is_x;
   }
 

@@ -1,12 +1,12 @@
 -- Blocks that a run of calls leaves alone, and the volumes that are seen on them.
-use Rattle.std.proofs.Common.{◌≡◌, ◌≢◌, ◌⊎◌, inl, inr, ℕ, ◌+◌, ◌<◌, ◌≤◌, ◌==◌, ◌||◌, nat_lt, cond, Bool, true, false, List, [], ◌∷◌, map, refl, ap, ◌∙◌, subst, arith}
+use Rattle.std.proofs.Common.{◌≡◌, ◌≢◌, inl, inr, ℕ, ◌+◌, ◌<◌, ◌≤◌, ◌==◌, ◌||◌, nat_lt, cond, Bool, true, false, List, [], ◌∷◌, map, refl, ap, arith}
 use Rattle.std.proofs.lemmas.Bool.Decides.{nat_tests}
 use Rattle.std.specs.List.{list_any}
 use Rattle.sm_defs.specs.Image.{Block, hole, stands}
-use Rattle.sm_defs.specs.Volume.{Snapshot, Volume}
+use Rattle.sm_defs.specs.Volume.{Snapshot}
 use Rattle.sm_disk.specs.Image.{SameAt, IsOutside}
 use Rattle.sm_disk.specs.Image as disk
-use Rattle.sm_disk.specs.Disk.{DiskState, GoesOn}
+use Rattle.sm_disk.specs.Disk.{DiskState}
 use Rattle.sm_disk.specs.Spared.{Spares, IsLike}
 use Rattle.sm_disk.proofs.Moments.{weaker}
 use Rattle.sm_disk.proofs.Parts.{part-spared}

@@ -1,22 +1,22 @@
 -- What each call makes of the volume that is seen, and why it is refused.
-use Rattle.std.proofs.Common.{◌≡◌, ◌≢◌, ◌⊎◌, inl, inr, ⊎_elim, ℕ, ◌+◌, ◌-◌, ◌<◌, ◌≤◌, ◌==◌, ◌||◌, not, zero, suc, Bool, true, false, List, [], ◌∷◌, ◌++◌, map, replicate, slice_set, slice_index, slice_index_or, length, refl, sym, ap, ◌∙◌, subst, arith, Option, Some, None, option_map, find, cond, Result, Ok, Err, OnOk, OnErr, IsTrue, nat_le}
+use Rattle.std.proofs.Common.{◌≡◌, ◌≢◌, inl, inr, ℕ, ◌≤◌, ◌==◌, not, zero, suc, Bool, true, false, List, [], ◌∷◌, map, replicate, slice_set, slice_index, slice_index_or, refl, sym, ap, ◌∙◌, subst, arith, Option, Some, None, option_map, find, cond, Result, Ok, Err, OnOk, OnErr, IsTrue, nat_le}
 use Rattle.std.proofs.lemmas.Bool.Decides.{nat_tests}
 use Rattle.std.proofs.lemmas.List.{map-set, map-append}
 use Rattle.std.proofs.Math.ListN.{get_or-map}
-use Rattle.std.specs.List.{filter, list_any, list_all}
+use Rattle.std.specs.List.{list_any, list_all}
 use Rattle.std.specs.Str.{bytes_eq}
 use Rattle.sm_base.specs.declared.numbers.Ident.{Ident}
 use Rattle.sm_base.specs.declared.numbers.Kind.{Kind}
 use Rattle.sm_base.specs.declared.numbers.VolNo.{VolNo}
-use Rattle.sm_defs.specs.Image.{Block, Image, hole, stands, tags}
-use Rattle.sm_defs.specs.Volume.{Snapshot, Volume, has, is_rw, tags_of, images_of, new_volume, image_of as image_of_snapshot}
+use Rattle.sm_defs.specs.Image.{Block, Image, hole, stands}
+use Rattle.sm_defs.specs.Volume.{Snapshot, Volume, has, is_rw, new_volume, image_of as image_of_snapshot}
 use Rattle.sm_defs.specs.Words.{Among, same_ident, has_ident, up_to}
 use Rattle.sm_disk.specs.Image.{IsOutside}
 use Rattle.sm_disk.specs.Image as disk
-use Rattle.sm_disk.specs.Disk.{DiskState, GoesOn}
+use Rattle.sm_disk.specs.Disk.{DiskState}
 use Rattle.sm_disk.specs.Spared.{Spares}
 use Rattle.sm_root.specs.declared.root.RootSnapshot.{RootSnapshot}
-use Rattle.sm_root.specs.Condition.{map_of, IsRoot}
+use Rattle.sm_root.specs.Condition.{map_of}
 use Rattle.volume_store.specs.declared.faults.VolumeFault.{VolumeFault}
 use Rattle.volume_store.specs.declared.faults.VolumeFault.TheVariants.{DiskFault, ReadOnly, BadBlock, NoSpace}
 use Rattle.volume_store.specs.declared.head.Head.{Head}
@@ -34,12 +34,10 @@ use Rattle.volume_store.specs.Snapshot as store_snapshot
 use Rattle.volume_store.proofs.Sound.{among_map_to}
 use Rattle.sm_volume.specs.Seen.{block_of, image_of, seen_snapshot, volume_of}
 use Rattle.sm_volume.specs.Mounted.{Mounted, mounted}
-use Rattle.sm_volume.specs.Shown.{Selects, KeepsBlocks}
-use Rattle.sm_volume.specs.Assigned.{IsLeastFree, HasBlock, written, snapped, snapshot_of, without, staying, reverted, IsReverted}
+use Rattle.sm_volume.specs.Assigned.{IsLeastFree, HasBlock, written, snapped, without, staying, reverted, IsReverted}
 use Rattle.sm_volume.specs.Refusals.{snapshot_refusal, remove_refusal, write_refusal, read_refusal, revert_refusal, image_seen, unless_seen}
-use Rattle.sm_volume.proofs.BlockLemmas.{neither, bytes_same, image_kept, snapshots_kept, volume_used, keeps_others}
-use Rattle.sm_volume.proofs.SeenLemmas.{used_seen, uses_seen, any_seen, has_seen, length_seen, filter_seen, find_seen, up_to_seen, images_seen, all_images}
-use Rattle.sm_volume.proofs.MountedLemmas.{shows_seen}
+use Rattle.sm_volume.proofs.BlockLemmas.{neither, bytes_same, volume_used, keeps_others}
+use Rattle.sm_volume.proofs.SeenLemmas.{used_seen, uses_seen, any_seen, has_seen, length_seen, filter_seen, find_seen, up_to_seen, all_images}
 
 same_self : (i : Ident) → same_ident i i ≡ true
 same_self i =

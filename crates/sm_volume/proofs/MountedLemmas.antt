@@ -1,22 +1,21 @@
 -- A volume beside its disk before and after a call.
-use Rattle.std.proofs.Common.{◌≡◌, ◌⊎◌, inl, inr, ⊎_elim, ℕ, ◌-◌, ◌≤◌, ◌||◌, Bool, true, false, List, [], ◌∷◌, map, refl, sym, ap, ◌∙◌, subst, Option, Some, None, option_map, Result, Ok, Err, OnOk}
+use Rattle.std.proofs.Common.{◌≡◌, inl, inr, ⊎_elim, ℕ, ◌-◌, ◌||◌, Bool, true, false, List, [], map, refl, sym, ap, ◌∙◌, subst, Option, Some, None, option_map, Result, Ok, Err, OnOk}
 use Rattle.sm_base.specs.declared.numbers.VolNo.{VolNo}
 use Rattle.sm_defs.specs.Image.{stands}
 use Rattle.sm_defs.specs.Volume.{Volume}
 use Rattle.sm_disk.specs.Image as disk
-use Rattle.sm_disk.specs.Disk.{DiskState, GoesOn}
+use Rattle.sm_disk.specs.Disk.{DiskState}
 use Rattle.sm_disk.proofs.Moments.{weaker}
 use Rattle.sm_root.specs.declared.root.Root.{Root}
 use Rattle.sm_root.specs.Condition.{map_of, maps_of}
 use Rattle.volume_store.specs.declared.faults.VolumeFault.{VolumeFault}
-use Rattle.volume_store.specs.declared.faults.VolumeFault.TheVariants.{DiskFault}
 use Rattle.volume_store.specs.Held.{Held, block_at, bytes_at}
 use Rattle.volume_store.specs.Held as store
 use Rattle.volume_store.specs.Commits as store_commits
-use Rattle.volume_store.specs.Maps.{Maps, all_maps, uses}
+use Rattle.volume_store.specs.Maps.{Maps, uses}
 use Rattle.sm_volume.specs.Seen.{volume_of}
 use Rattle.sm_volume.specs.Mounted.{Mounted, mounted, opened}
-use Rattle.sm_volume.specs.Shown.{Shows, Selects, SameBlocks, KeepsBlocks, NoBlock}
+use Rattle.sm_volume.specs.Shown.{Selects, SameBlocks, KeepsBlocks, NoBlock}
 use Rattle.sm_volume.specs.Commits.{Commits, BeforeOrAfter}
 use Rattle.sm_volume.proofs.BlockLemmas.{bytes_same, volume_used, volume_kept, keeps_all}
 

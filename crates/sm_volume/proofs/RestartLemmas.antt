@@ -1,5 +1,5 @@
 -- What a restart leaves of the volume that is seen.
-use Rattle.std.proofs.Common.{◌≡◌, ◌⊎◌, inl, inr, ⊎_elim, ℕ, ◌-◌, true, false, List, [], ◌∷◌, map, refl, sym, ap, ◌∙◌, subst, Option, Some, None, option_map, Result, Ok, Err, IfOk, OnErr, IsTrue}
+use Rattle.std.proofs.Common.{◌≡◌, inl, inr, ℕ, ◌-◌, true, List, [], ◌∷◌, map, refl, sym, ap, ◌∙◌, subst, Option, Some, None, option_map, Result, Ok, Err, IfOk, OnErr, IsTrue}
 use Rattle.sm_base.specs.declared.numbers.Side.{Side}
 use Rattle.sm_base.specs.declared.numbers.Side.TheVariants.{Before, After}
 use Rattle.sm_base.specs.declared.numbers.VolNo.{VolNo}
@@ -13,7 +13,7 @@ use Rattle.volume_store.specs.Held.{Held, IsHeld, IsAsLarge, restarted, taken_si
 use Rattle.volume_store.specs.Held as store_held
 use Rattle.volume_store.specs.Maps.{Maps}
 use Rattle.sm_volume.specs.Seen.{block_of, image_of, seen_snapshot, volume_of}
-use Rattle.sm_volume.specs.Mounted.{Mounted, mounted, opened, of_side, bare, bare_block, bare_image, bare_snapshot}
+use Rattle.sm_volume.specs.Mounted.{Mounted, mounted, of_side, bare, bare_block, bare_image, bare_snapshot}
 use Rattle.sm_volume.specs.Shown.{Selects, SelectsAfter, SelectsSide}
 use Rattle.sm_volume.specs.Restarted.{IsRestarted, IsStillDown}
 use Rattle.sm_volume.proofs.MountedLemmas.{shows_seen, seen_again}

@@ -1,19 +1,17 @@
 -- What is seen of a volume, and what its maps say.
-use Rattle.std.proofs.Common.{◌≡◌, ℕ, suc, ◌==◌, ◌||◌, Bool, true, false, List, [], ◌∷◌, ◌++◌, map, flat_map, length, refl, sym, ap, ◌∙◌, Option, Some, None, option_map, find, cond}
-use Rattle.std.specs.List.{filter, list_any, list_all}
-use Rattle.std.proofs.lemmas.List.{map-append}
-use Rattle.std.specs.Str.{bytes_eq}
+use Rattle.std.proofs.Common.{◌≡◌, ℕ, suc, ◌==◌, ◌||◌, Bool, true, false, List, [], ◌∷◌, ◌++◌, map, flat_map, length, refl, ap, ◌∙◌, Option, Some, option_map, find, cond}
+use Rattle.std.specs.List.{filter, list_any}
 use Rattle.sm_base.specs.declared.numbers.Ident.{Ident}
 use Rattle.sm_defs.specs.Image.{Image, stands, tags, distinct}
-use Rattle.sm_defs.specs.Volume.{Snapshot, Volume, has, tags_of, used, images_of, image_of as image_of_snapshot}
-use Rattle.sm_defs.specs.Words.{same_ident, has_ident, up_to}
+use Rattle.sm_defs.specs.Volume.{Snapshot, has, tags_of, used, images_of, image_of as image_of_snapshot}
+use Rattle.sm_defs.specs.Words.{same_ident, up_to}
 use Rattle.sm_disk.specs.Image as disk
 use Rattle.sm_root.specs.declared.root.Root.{Root}
 use Rattle.sm_root.specs.declared.root.RootSnapshot.{RootSnapshot}
 use Rattle.sm_root.specs.Condition.{map_of}
 use Rattle.volume_store.specs.Maps.{Maps, all_maps, uses}
 use Rattle.volume_store.specs.Refusals.{used_of}
-use Rattle.sm_volume.specs.Seen.{block_of, image_of, seen_snapshot, volume_of, kept_snapshot, root_of}
+use Rattle.sm_volume.specs.Seen.{image_of, seen_snapshot, volume_of, kept_snapshot, root_of}
 
 -- the numbers that the images have are those that the maps have
 pub tags_seen : (c : disk.Image) (ms : List ℕ) → tags (image_of c ms) ≡ ms

@@ -1,5 +1,5 @@
 -- What holds of every volume, whenever it is asked.
-use Rattle.std.specs.Prelude.{◌≡◌, ℕ, ◌<◌, ◌≤◌, true, map, None}
+use Rattle.std.specs.Prelude.{◌≡◌, ◌<◌, ◌≤◌, true, map, None}
 use Rattle.sm_defs.specs.Image.{tags}
 use Rattle.sm_defs.specs.Volume.{images_of}
 use Rattle.sm_disk.specs.Image.{Image}

@@ -1,5 +1,5 @@
 -- A volume of the definitions beside its disk.
-use Rattle.std.specs.Prelude.{◌≡◌, ℕ, List, [], map, false, Bool, Option, Some, None, option_map}
+use Rattle.std.specs.Prelude.{ℕ, [], map, false, Bool, Option, Some, option_map}
 use Rattle.sm_base.specs.declared.numbers.VolNo.{VolNo}
 use Rattle.sm_base.specs.declared.numbers.Side.{Side}
 use Rattle.sm_base.specs.declared.numbers.Side.TheVariants.{Before, After}

@@ -10,9 +10,11 @@
 
 mod calls;
 mod io;
+mod laws;
 mod open;
 mod restart;
 mod volume;
 
+pub use laws::{disks_go_together, part_goes_on, part_is_committed};
 pub use volume::Volume;
 pub use volume_store::{Head, View, VolumeFault};

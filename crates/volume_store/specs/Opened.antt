@@ -62,7 +62,7 @@ IsReadFault s _ = ⊥
 abbrev pub least_need : ℕ
 least_need = 25731072
 
--- Which fault opening a disk answers: each comes only where it is said here, and these places exclude each other.
+-- Which fault opening a disk answers: each comes only where it is said here.
 abbrev pub IsOpenFault : DiskState → VolNo → VolumeFault → Type 0
 IsOpenFault s number DiskFault = Unit {0}
 IsOpenFault s number OutOfMemory = Unit {0}

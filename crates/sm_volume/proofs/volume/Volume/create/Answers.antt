@@ -1,6 +1,5 @@
-use Rattle.std.proofs.Common.{◌≡◌, true, [], None, ◌∙◌, ap}
-use Rattle.sm_defs.specs.Volume.{Volume, new_volume}
-use Rattle.volume_store.specs.Held.{Held}
+use Rattle.std.proofs.Common.{true, None, ◌∙◌, ap}
+use Rattle.sm_defs.specs.Volume.{Volume}
 use Rattle.sm_volume.specs.Mounted.{Mounted, mounted}
 use Rattle.sm_volume.proofs.BlockLemmas.{keeps_all}
 use Rattle.sm_volume.proofs.CallLemmas.{created}

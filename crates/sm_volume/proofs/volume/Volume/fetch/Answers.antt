@@ -1,8 +1,8 @@
-use Rattle.std.proofs.Common.{◌≡◌, [], IsTrue, Result, Ok, Err, OnOk, sym, ap, ◌∙◌, true, subst}
+use Rattle.std.proofs.Common.{◌≡◌, [], IsTrue, OnOk, sym, ap, ◌∙◌, true, subst}
 use Rattle.sm_defs.specs.Image.{stands}
 use Rattle.sm_defs.specs.Volume.{tags_of}
 use Rattle.volume_store.specs.Maps.{all_maps, uses}
-use Rattle.sm_volume.specs.Mounted.{Mounted, mounted}
+use Rattle.sm_volume.specs.Mounted.{Mounted}
 use Rattle.sm_volume.specs.Assigned.{HasBlock}
 use Rattle.sm_volume.proofs.SeenLemmas.{uses_seen}
 use Rattle.sm_volume.proofs.CallLemmas.{fetched_ok}

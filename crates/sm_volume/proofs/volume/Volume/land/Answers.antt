@@ -1,9 +1,9 @@
-use Rattle.std.proofs.Common.{◌≡◌, [], IsTrue, None, Result, Ok, Err, OnOk, OnErr, sym, ap, ◌∙◌, false, subst}
+use Rattle.std.proofs.Common.{◌≡◌, [], OnOk, OnErr, sym, ap, ◌∙◌, false, subst}
 use Rattle.sm_defs.specs.Image.{stands}
 use Rattle.sm_defs.specs.Volume.{tags_of}
 use Rattle.sm_disk.specs.Disk.{GoesOn}
 use Rattle.sm_disk.proofs.Moments.{weaker}
-use Rattle.volume_store.specs.Held.{Held, Shows}
+use Rattle.volume_store.specs.Held.{Shows}
 use Rattle.volume_store.specs.Maps.{all_maps, uses}
 use Rattle.sm_volume.specs.Mounted.{Mounted, mounted}
 use Rattle.sm_volume.specs.Mounted.{on_disk, fallen}

@@ -1,7 +1,7 @@
-use Rattle.std.proofs.Common.{◌≡◌, [], IsTrue, Some, Result, OnOk, slice_index_or, sym, subst}
+use Rattle.std.proofs.Common.{◌≡◌, IsTrue, Some, OnOk, slice_index_or, sym, subst}
 use Rattle.sm_defs.specs.Image.{Image, hole}
 use Rattle.volume_store.specs.Refusals.{RefusesOrFails}
-use Rattle.sm_volume.specs.Mounted.{Mounted, mounted}
+use Rattle.sm_volume.specs.Mounted.{Mounted}
 use Rattle.sm_volume.specs.Refusals.{read_refusal, image_seen}
 use Rattle.sm_volume.proofs.CallLemmas.{read_refused, read_bytes}
 use Rattle.sm_volume.proofs.volume.Volume.read.Goals as goal

@@ -1,6 +1,4 @@
-use Rattle.std.proofs.Common.{IsTrue, Result, Ok, Err, IfOk, OnErr, subst}
-use Rattle.sm_base.specs.declared.numbers.Side.{Side}
-use Rattle.volume_store.specs.declared.faults.VolumeFault.{VolumeFault}
+use Rattle.std.proofs.Common.{IsTrue, IfOk, OnErr, subst}
 use Rattle.sm_volume.specs.Mounted.{Mounted, mounted}
 use Rattle.sm_volume.specs.Shown.{SelectsSide}
 use Rattle.sm_volume.specs.Restarted.{IsRestarted, IsStillDown}

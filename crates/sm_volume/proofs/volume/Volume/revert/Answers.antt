@@ -26,8 +26,8 @@ returns-clause-commits g c =
     let image = (state old.disk).seen in
     subst (λ (v : Mounted _). has v.volume.snapshots c.args.ident ≡ true → (next : Volume) × IsReverted v.volume c.args.ident c.args.drop_newer c.args.family next × Commits state v next c.revert.result (mounted state c.revert.new.self)) c.self.view_is
     (λ stands.
-        let made = c.revert.ensures.commits (sym (has_seen image old.maps.root.snapshots c.args.ident) ∙ stands) in (
-          volume_of [] 0 image made.0,
-          reverted_seen image old.maps made.0 c.args.ident c.args.drop_newer c.args.family made.1,
-          commits_seen state old c.revert.new.self made.0 (volume_of [] 0 image made.0) c.revert.result (ap (λ (m : Maps). m.root.number) made.1.2) refl made.2,
-        ))
+    let made = c.revert.ensures.commits (sym (has_seen image old.maps.root.snapshots c.args.ident) ∙ stands) in (
+      volume_of [] 0 image made.0,
+      reverted_seen image old.maps made.0 c.args.ident c.args.drop_newer c.args.family made.1,
+      commits_seen state old c.revert.new.self made.0 (volume_of [] 0 image made.0) c.revert.result (ap (λ (m : Maps). m.root.number) made.1.2) refl made.2,
+    ))

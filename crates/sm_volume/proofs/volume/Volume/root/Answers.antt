@@ -1,5 +1,5 @@
 use Rattle.std.proofs.Common.{[], sym, ◌∙◌, ap}
-use Rattle.sm_volume.specs.Mounted.{Mounted, mounted}
+use Rattle.sm_volume.specs.Mounted.{Mounted}
 use Rattle.sm_volume.specs.Seen.{root_of}
 use Rattle.sm_volume.proofs.SeenLemmas.{root_seen}
 use Rattle.sm_volume.proofs.volume.Volume.root.Goals as goal

@@ -1,9 +1,7 @@
-use Rattle.std.proofs.Common.{◌≡◌, ℕ, List, [], Option, None, option_map, ⊎_elim, inl, inr, sym, ap, ◌∙◌, subst}
+use Rattle.std.proofs.Common.{[], option_map, ⊎_elim, inl, inr, sym, ap, subst}
 use Rattle.sm_base.specs.declared.numbers.Side.TheVariants.{Before, After}
 use Rattle.sm_root.specs.Condition.{IsRoot}
-use Rattle.sm_root.specs.declared.root.Root.{Root}
-use Rattle.volume_store.specs.Maps.{Maps, AreMapsOf}
-use Rattle.sm_volume.specs.Mounted.{Mounted, mounted}
+use Rattle.volume_store.specs.Maps.{AreMapsOf}
 use Rattle.sm_volume.specs.Seen.{volume_of}
 use Rattle.sm_volume.specs.Kept.{IsKept}
 use Rattle.sm_volume.proofs.SeenLemmas.{root_seen, all_tags}

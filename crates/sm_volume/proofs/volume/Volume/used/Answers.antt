@@ -1,6 +1,6 @@
 use Rattle.std.proofs.Common.{[], sym, ◌∙◌, ap}
 use Rattle.sm_defs.specs.Volume.{used}
-use Rattle.sm_volume.specs.Mounted.{Mounted, mounted}
+use Rattle.sm_volume.specs.Mounted.{Mounted}
 use Rattle.sm_volume.proofs.SeenLemmas.{used_seen}
 use Rattle.sm_volume.proofs.volume.Volume.used.Goals as goal
 

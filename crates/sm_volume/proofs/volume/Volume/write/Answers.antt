@@ -1,11 +1,8 @@
-use Rattle.std.proofs.Common.{◌≡◌, [], ◌≢◌, ℕ, IsTrue, None, Some, Result, Err, OnOk, sym, ap, ◌∙◌, subst}
+use Rattle.std.proofs.Common.{◌≡◌, [], ℕ, OnOk, sym, ap, ◌∙◌, subst}
 use Rattle.sm_disk.specs.Disk.{GoesOn}
 use Rattle.sm_disk.proofs.Moments.{weaker}
-use Rattle.volume_store.specs.declared.faults.VolumeFault.{VolumeFault}
-use Rattle.volume_store.specs.declared.faults.VolumeFault.TheVariants.{DiskFault}
 use Rattle.volume_store.specs.Refusals.{RefusesOrFails}
-use Rattle.volume_store.specs.Refusals as store_refusals
-use Rattle.volume_store.specs.Held.{Held, Shows}
+use Rattle.volume_store.specs.Held.{Shows}
 use Rattle.sm_volume.specs.Mounted.{Mounted, mounted}
 use Rattle.sm_volume.specs.Mounted.{fallen}
 use Rattle.sm_volume.specs.Shown.{Selects, KeepsBlocks}
