@@ -31,7 +31,7 @@ use Rattle.volume_store.specs.Opened.{empty_maps}
 use Rattle.volume_store.specs.Refusals.{used_of}
 use Rattle.volume_store.specs.Refusals as store_refusals
 use Rattle.volume_store.specs.Snapshot as store_snapshot
-use Rattle.volume_store.proofs.Sound.{among_map_to}
+use Rattle.volume_store.proofs.Sound.{among_map_from, among_map_to}
 use Rattle.sm_volume.specs.Seen.{block_of, image_of, seen_snapshot, volume_of}
 use Rattle.sm_volume.specs.Mounted.{Mounted, mounted}
 use Rattle.sm_volume.specs.Assigned.{IsLeastFree, HasBlock, written, snapped, without, staying, reverted, IsReverted}
@@ -241,6 +241,14 @@ fetched c m n bytes from used is =
       subst (λ (images : List Image). Among images (image_of c found.0)) (sym (all_images [] 0 c m)) (among_map_to (image_of c) (all_maps m.root m.active) found.0 found.1),
       subst (λ (bs : List ℕ). Among (image_of c found.0) (let b : Block = record { tag = n; bytes = bs } in b)) (block_bytes c n from ∙ sym is) (has_block c n found.0 found.2),
     )
+
+-- the disk reads as the volume's blocks
+pub kept_blocks : (c : disk.Image) (m : Maps) (b : Block) → HasBlock (volume_of [] 0 c m) b → 1 ≤ b.tag → block_at c b.tag ≡ b.bytes
+kept_blocks c m b has from =
+    let image = among_map_from (image_of c) (all_maps m.root m.active) has.0 (subst (λ (images : List Image). Among images has.0) (all_images [] 0 c m) has.1) in
+    let number = among_map_from (block_of c) image.0 b (subst (λ (i : Image). Among i b) image.2 has.2) in
+    let tag : b.tag ≡ number.0 = ap (λ (x : Block). x.tag) number.2 in
+    ap (block_at c) tag ∙ sym (block_bytes c number.0 (subst (λ (n : ℕ). 1 ≤ n) tag from)) ∙ sym (ap (λ (x : Block). x.bytes) number.2)
 
 -- create
 map_replicate : {X Y : Type 0} (f : X → Y) (n : ℕ) (x : X) → map f (replicate n x) ≡ replicate n (f x)

@@ -1,6 +1,6 @@
 // The restart of a volume's disk.
 ghost use Rattle.std.specs.Prelude.{◌≡◌, OnErr, IfOk, Err, IsTrue};
-ghost use Rattle.sm_disk.specs.Disk.{IsSynced, IsCounted};
+ghost use Rattle.sm_disk.specs.Disk.{Steps, IsSynced, IsCounted};
 ghost use Rattle.sm_volume.specs.Mounted.{Mounted};
 ghost use Rattle.sm_volume.specs.Restarted.{IsRestarted, IsStillDown};
 ghost use Rattle.sm_volume.specs.Shown.{SelectsSide};
@@ -22,6 +22,7 @@ impl<D: Disk> Volume<D> {
         ensures counted { OnErr result (IsCounted (D.state self.old.disk) (D.state self.new.disk)) }
         ensures image { IsTrue (D.state self.old.disk).told → (D.state self.old.disk).may_leave (D.state self.new.disk).seen }
         ensures synced { IsSynced (D.state self.new.disk) }
+        ensures time { Steps (D.state self.old.disk) (D.state self.new.disk) }
     {
         self.store.told();
         self.store.restart()

@@ -1,1 +1,1 @@
-pub mod SeenLemmas
+mod DoneLemmas

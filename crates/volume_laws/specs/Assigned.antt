@@ -1,51 +1,58 @@
 -- The calls as plain assignments to the volume of the definitions.
-use Rattle.std.specs.Prelude.{◌≡◌, ℕ, suc, ◌*◌, ◌==◌, ◌<◌, ◌≤◌, not, cond, Bool, true, false, List, [], ◌∷◌, ◌++◌, slice_set, Option}
-use Rattle.std.specs.List.{filter}
-use Rattle.sm_base.specs.declared.numbers.Ident.{Ident}
-use Rattle.sm_base.specs.declared.numbers.Kind.TheVariants.{Rw}
-use Rattle.sm_defs.specs.Image.{full_block, stands}
-use Rattle.sm_defs.specs.Volume.{Volume, Snapshot, tags_of}
-use Rattle.sm_defs.specs.Words.{same_ident}
+use Rattle.std.specs.Prelude.{◌≡◌, ℕ, ◌≤◌, Bool, false, IsTrue, List, [], ◌∷◌}
+use Rattle.sm_defs.specs.Image.{Block, full_block, stands}
+use Rattle.sm_defs.specs.Volume.{Volume, tags_of, has}
+use Rattle.sm_disk.specs.Image as disk
 use Rattle.sm_disk.specs.Disk.{DiskState}
-use Rattle.sm_volume.specs.Held.{Held}
-use Rattle.sm_volume.specs.Seen.{volume_of}
+use Rattle.volume_store.specs.Held.{block_at}
+use Rattle.sm_volume.specs.Seen.{image_of}
+use Rattle.sm_volume.specs.Mounted.{Mounted, opened, bare}
+use Rattle.sm_volume.specs.Shown.{SameBlocks, NoBlock}
+use Rattle.sm_volume.specs.Assigned.{IsLeastFree, CanAdopt, written, settled, snapped, without, writable, adopted, snapshot_of, IsReverted}
 use Rattle.volume_laws.specs.declared.call.Call as the_call
 use Rattle.volume_laws.specs.declared.call.Call.TheVariants as calls
 
--- the volume that is seen on its disk; it knows neither its path nor the disk's number
-abbrev pub seen_of : {D : Type 0} → (D → DiskState) → Held D → Volume
-seen_of state v = volume_of [] 0 (state v.disk).seen v.maps
+-- a volume, and what its disk reads at each physical block
+pub record Plain : Type 0 where
+  pub volume : Volume
+  pub reads : disk.Image
 
--- the least number that no image of the volume uses
-pub record IsLeastFreeOf (v : Volume) (n : ℕ) : Type 0 where
-  pub from_one : 1 ≤ n
-  pub within : n ≤ v.physical
-  pub unused : stands n (tags_of v) ≡ false
-  pub least : (m : ℕ) → 1 ≤ m → m < n → stands m (tags_of v) ≡ true
+abbrev pub plain : {D : Type 0} → (D → DiskState) → Mounted D → Plain
+plain state v = record { volume = v.volume; reads = (state v.disk).seen }
 
--- where the next number is taken, the one behind it is next
-abbrev pub next_number : Ident → ℕ → ℕ
-next_number i next = cond (i.seq == 2 * next) (suc next) next
+-- a block of one byte is at the number, and every other block reads as before
+pub record IsPut (told : Bool) (n fill : ℕ) (old new : disk.Image) : Type 0 where
+  pub here : IsTrue told → block_at new n ≡ (full_block n fill).bytes
+  pub others : SameBlocks (λ k. k ≡ n) old new
 
-abbrev pub taken : Ident → List ℕ → Option (List ℕ) → ℕ → Volume → Snapshot
-taken ident name label time v = record { ident = ident; name = name; label = label; time = time; maker = 0; image = v.active }
-
-abbrev pub is_other : Ident → Snapshot → Bool
-is_other i s = not (same_ident i s.ident)
-
--- what the call assigns
-unfoldable pub Assigns : the_call.Call → Volume → Volume → Type 0
-Assigns (calls.Write at fill) old new = (n : ℕ) × IsLeastFreeOf old n × (new ≡ record old { active = slice_set old.active at (full_block n fill) })
-Assigns calls.ConsistencyPoint old new = new ≡ record old { stable = old.active }
-Assigns (calls.Snapshot ident name label time) old new = new ≡ record old {
-  stable = old.active;
-  next = next_number ident old.next;
-  snapshots = old.snapshots ++ taken ident name label time old ∷ [];
-}
-Assigns (calls.Remove ident) old new = new ≡ record old { snapshots = filter (is_other ident) old.snapshots }
-Assigns calls.MakeWritable old new = new ≡ record old { kind = Rw }
+-- What the call assigns. On a disk that does not tell its content nothing is said of bytes.
+unfoldable pub Assigns : Bool → the_call.Call → Plain → Plain → Type 0
+Assigns told (calls.Write at fill) old new =
+    (b : Block) × IsLeastFree old.volume b.tag × (IsTrue told → b ≡ full_block b.tag fill)
+    × (new.volume ≡ written old.volume at b) × SameBlocks (λ k. k ≡ b.tag) old.reads new.reads
+Assigns told calls.ConsistencyPoint old new = (new.volume ≡ settled old.volume) × SameBlocks NoBlock old.reads new.reads
+Assigns told (calls.Snapshot ident name label time) old new =
+    (new.volume ≡ snapped old.volume (record { ident = ident; name = name; label = label; time = time; made = 0 })) × SameBlocks NoBlock old.reads new.reads
+Assigns told (calls.Remove drops) old new = (new.volume ≡ without old.volume drops.items) × SameBlocks NoBlock old.reads new.reads
+Assigns told calls.MakeWritable old new = (new.volume ≡ writable old.volume) × SameBlocks NoBlock old.reads new.reads
+Assigns told (calls.Revert ident drop_newer family) old new = IsReverted old.volume ident drop_newer family new.volume × SameBlocks NoBlock old.reads new.reads
+Assigns told (calls.Land number fill) old new = (new.volume ≡ old.volume) × IsPut told number fill old.reads new.reads
+Assigns told (calls.Adopt head map family drops) old new =
+    (new.volume ≡ adopted old.volume (snapshot_of head (image_of old.reads map.items)) family drops.items) × SameBlocks NoBlock old.reads new.reads
+Assigns told calls.Restart old new = (bare new.volume ≡ bare (opened old.volume)) × (IsTrue told → new.volume ≡ opened old.volume)
 
 -- one call after another
-abbrev pub AssignsAll : List the_call.Call → Volume → Volume → Type 0
-AssignsAll [] old new = new ≡ old
-AssignsAll (c ∷ cs) old new = (mid : Volume) × Assigns c old mid × AssignsAll cs mid new
+abbrev pub AssignsAll : Bool → List the_call.Call → Plain → Plain → Type 0
+AssignsAll told [] old new = new ≡ old
+AssignsAll told (c ∷ cs) old new = (mid : Plain) × Assigns told c old mid × AssignsAll told cs mid new
+
+-- what a call asks of the volume beside that it is up: a block lands at a free number, and a map that is taken over fits
+abbrev pub IsReady : the_call.Call → Volume → Type 0
+IsReady (calls.Land number fill) v = (1 ≤ number) × (number ≤ v.physical) × (stands number (tags_of v) ≡ false)
+IsReady (calls.Adopt head map family drops) v = (has v.snapshots head.ident ≡ false) × CanAdopt v map.items drops.items
+IsReady _ v = Unit {0}
+
+-- each call finds what it asks for, whatever the calls before it make
+abbrev pub AreReady : Bool → List the_call.Call → Plain → Type 0
+AreReady told [] old = Unit {0}
+AreReady told (c ∷ cs) old = IsReady c old.volume × ((mid : Plain) → Assigns told c old mid → AreReady told cs mid)

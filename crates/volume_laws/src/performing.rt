@@ -1,57 +1,90 @@
-ghost use Rattle.std.specs.Prelude.{◌≡◌, true, OnOk, IfOk, IsTrue};
+ghost use Rattle.std.specs.Prelude.{◌≡◌, true, IfOk};
 ghost use Rattle.std.specs.List.{list_any};
+ghost use Rattle.sm_defs.specs.Volume.{has};
 ghost use Rattle.sm_defs.specs.Words.{same_ident};
-ghost use Rattle.volume_laws.specs.Assigned.{seen_of, Assigns, AssignsAll};
-ghost use Rattle.volume_laws.specs.declared.call.Call.TheVariants.{Write, ConsistencyPoint, Snapshot, Remove, MakeWritable};
+ghost use Rattle.volume_laws.specs.Assigned.{plain, IsReady, AreReady};
+ghost use Rattle.volume_laws.specs.Answered.{IsDone, AreDone};
+ghost use Rattle.volume_laws.specs.declared.call.Call.TheVariants.{Write, ConsistencyPoint, Snapshot, Remove, MakeWritable, Revert, Land, Adopt, Restart};
 
 use crate::call::Call;
 use sm_base::{Block, Ident, Label, NoMemory, SnapName};
 use sm_disk::Disk;
 use sm_root::RootSnapshot;
-use sm_volume::{Volume, VolumeFault};
+use sm_volume::{Head, Volume, VolumeFault};
 use std::alloc::Global;
 
 fn write<D: Disk>(v: &mut Volume<D>, at: u32, fill: u8) -> Result<(), VolumeFault>
     requires up { v.old.up ≡ true }
-    ensures assigned { OnOk result (IsTrue (D.state v.old.disk).told → Assigns (Write at fill) (seen_of D.state v.old) (seen_of D.state v.new)) }
-    ensures up { OnOk result (v.new.up ≡ true) }
-    ensures told { (D.state v.new.disk).told ≡ (D.state v.old.disk).told }
+    ensures { IsDone D.state (Write at fill) v.old result v.new }
 {
     v.write(at, &Block([fill; 4096]))
 }
 
 fn consistency_point<D: Disk>(alloc: Global, v: &mut Volume<D>) -> Result<(), VolumeFault>
     requires up { v.old.up ≡ true }
-    ensures assigned { OnOk result (Assigns ConsistencyPoint (seen_of D.state v.old) (seen_of D.state v.new)) }
-    ensures up { OnOk result (v.new.up ≡ true) }
-    ensures told { (D.state v.new.disk).told ≡ (D.state v.old.disk).told }
+    ensures { IsDone D.state ConsistencyPoint v.old result v.new }
 {
     v.cp(alloc)
 }
 
 fn make_writable<D: Disk>(alloc: Global, v: &mut Volume<D>) -> Result<(), VolumeFault>
     requires up { v.old.up ≡ true }
-    ensures assigned { OnOk result (Assigns MakeWritable (seen_of D.state v.old) (seen_of D.state v.new)) }
-    ensures up { OnOk result (v.new.up ≡ true) }
-    ensures told { (D.state v.new.disk).told ≡ (D.state v.old.disk).told }
+    ensures { IsDone D.state MakeWritable v.old result v.new }
 {
     v.make_writable(alloc)
 }
 
-fn remove<D: Disk>(alloc: Global, v: &mut Volume<D>, ident: Ident) -> Result<(), VolumeFault>
+fn remove<D: Disk>(alloc: Global, v: &mut Volume<D>, drops: &Vec<Ident>) -> Result<(), VolumeFault>
     requires up { v.old.up ≡ true }
-    ensures assigned { OnOk result (Assigns (Remove ident) (seen_of D.state v.old) (seen_of D.state v.new)) }
-    ensures up { OnOk result (v.new.up ≡ true) }
-    ensures told { (D.state v.new.disk).told ≡ (D.state v.old.disk).told }
+    ensures { IsDone D.state (Remove drops.now) v.old result v.new }
 {
-    v.remove(alloc, &[ident])
+    v.remove(alloc, drops)
 }
 
-/// Whether a snapshot has the identity.
+fn revert<D: Disk>(
+    alloc: Global,
+    v: &mut Volume<D>,
+    ident: Ident,
+    drop_newer: bool,
+    family: u64,
+) -> Result<(), VolumeFault>
+    requires up { v.old.up ≡ true }
+    ensures { IsDone D.state (Revert ident drop_newer family) v.old result v.new }
+{
+    v.revert(alloc, ident, drop_newer, family)
+}
+
+fn land<D: Disk>(v: &mut Volume<D>, number: u32, fill: u8) -> Result<(), VolumeFault>
+    requires up { v.old.up ≡ true }
+    requires ready { IsReady (Land number fill) v.old.volume }
+    ensures { IsDone D.state (Land number fill) v.old result v.new }
+{
+    v.land(number, &Block([fill; 4096]))
+}
+
+fn restart<D: Disk>(v: &mut Volume<D>) -> Result<(), VolumeFault>
+    requires up { v.old.up ≡ true }
+    ensures { IsDone D.state Restart v.old result v.new }
+{
+    v.told();
+    match v.restart() {
+        Ok(_) => Ok(()),
+        Err(fault) => Err(fault),
+    }
+}
+
+// Whether a snapshot has the identity.
 fn stands(snapshots: &[RootSnapshot], ident: Ident) -> bool
     ensures { result ≡ list_any (λ s. same_ident s.ident ident) snapshots.now }
 {
     snapshots.iter().any(|s| s.ident.origin == ident.origin && s.ident.seq == ident.seq)
+}
+
+// Whether the volume has a snapshot of the identity.
+fn has_snapshot<D: Disk>(v: &Volume<D>, ident: Ident) -> bool
+    ensures { result ≡ has v.now.volume.snapshots ident }
+{
+    stands(v.root().snapshots.as_slice(), ident)
 }
 
 fn copy_label(alloc: Global, label: &Option<Label>) -> Result<Option<Label>, NoMemory>
@@ -63,32 +96,95 @@ fn copy_label(alloc: Global, label: &Option<Label>) -> Result<Option<Label>, NoM
     }
 }
 
+fn copy_head(alloc: Global, head: &Head) -> Result<Head, NoMemory>
+    ensures { IfOk result (λ copy. copy ≡ head.now) }
+{
+    Ok(Head {
+        ident: head.ident,
+        name: head.name.copy(alloc)?,
+        label: copy_label(alloc, &head.label)?,
+        time: head.time,
+        made: head.made,
+    })
+}
+
+// The head of a client's snapshot.
+fn client_head(
+    alloc: Global,
+    ident: Ident,
+    name: &SnapName,
+    label: &Option<Label>,
+    time: u64,
+) -> Result<Head, NoMemory>
+    ensures { IfOk result (λ head. head ≡ record { ident = ident; name = name.now; label = label.now; time = time; made = 0 }) }
+{
+    Ok(Head {
+        ident,
+        name: name.copy(alloc)?,
+        label: copy_label(alloc, label)?,
+        time,
+        made: 0,
+    })
+}
+
+fn copy_map(alloc: Global, map: &[u32]) -> Result<Vec<u32>, NoMemory>
+    ensures { IfOk result (λ copy. copy.items ≡ map.now) }
+{
+    Ok(Vec::from_slice(alloc, map)?)
+}
+
+fn copy_leg(alloc: Global, head: &Head, map: &[u32]) -> Result<(Head, Vec<u32>), NoMemory>
+    ensures head { IfOk result (λ copy. copy.0 ≡ head.now) }
+    ensures map { IfOk result (λ copy. copy.1.items ≡ map.now) }
+{
+    Ok((copy_head(alloc, head)?, copy_map(alloc, map)?))
+}
+
 fn take<D: Disk>(
     alloc: Global,
     v: &mut Volume<D>,
     ident: Ident,
-    name: SnapName,
-    label: Option<Label>,
+    name: &SnapName,
+    label: &Option<Label>,
     time: u64,
 ) -> Result<(), VolumeFault>
     requires up { v.old.up ≡ true }
-    ensures assigned { OnOk result (Assigns (Snapshot ident name label time) (seen_of D.state v.old) (seen_of D.state v.new)) }
-    ensures up { OnOk result (v.new.up ≡ true) }
-    ensures told { (D.state v.new.disk).told ≡ (D.state v.old.disk).told }
+    ensures { IsDone D.state (Snapshot ident name.now label.now time) v.old result v.new }
 {
-    if stands(v.root().snapshots.as_slice(), ident) {
+    if has_snapshot(v, ident) {
         return Err(VolumeFault::NameTaken);
     }
-    v.snapshot(alloc, ident, name, label, time, 0)
+    match client_head(alloc, ident, name, label, time) {
+        Ok(head) => v.snapshot(
+            alloc, head.ident, head.name, head.label, head.time, head.made,
+        ),
+        Err(NoMemory) => Err(VolumeFault::NoMemory),
+    }
+}
+
+fn adopt<D: Disk>(
+    alloc: Global,
+    v: &mut Volume<D>,
+    head: &Head,
+    map: &Vec<u32>,
+    family: u64,
+    drops: &Vec<Ident>,
+) -> Result<(), VolumeFault>
+    requires up { v.old.up ≡ true }
+    requires ready { IsReady (Adopt head.now map.now family drops.now) v.old.volume }
+    ensures { IsDone D.state (Adopt head.now map.now family drops.now) v.old result v.new }
+{
+    match copy_leg(alloc, head, map) {
+        Ok((head, map)) => v.adopt(alloc, head, map, family, drops),
+        Err(NoMemory) => Err(VolumeFault::NoMemory),
+    }
 }
 
 /// Makes one call. A snapshot of an identity that stands is refused as `NameTaken`.
-#[tactic(auto)]
 pub fn perform<D: Disk>(alloc: Global, v: &mut Volume<D>, call: &Call) -> Result<(), VolumeFault>
     requires up { v.old.up ≡ true }
-    ensures assigned { OnOk result (IsTrue (D.state v.old.disk).told → Assigns call.now (seen_of D.state v.old) (seen_of D.state v.new)) }
-    ensures up { OnOk result (v.new.up ≡ true) }
-    ensures told { (D.state v.new.disk).told ≡ (D.state v.old.disk).told }
+    requires ready { IsReady call.now v.old.volume }
+    ensures { IsDone D.state call.now v.old result v.new }
 {
     match call {
         Call::Write { at, fill } => write(v, *at, *fill),
@@ -98,13 +194,22 @@ pub fn perform<D: Disk>(alloc: Global, v: &mut Volume<D>, call: &Call) -> Result
             name,
             label,
             time,
-        } => {
-            let name = name.copy(alloc)?;
-            let label = copy_label(alloc, label)?;
-            take(alloc, v, *ident, name, label, *time)
-        }
-        Call::Remove { ident } => remove(alloc, v, *ident),
+        } => take(alloc, v, *ident, name, label, *time),
+        Call::Remove { drops } => remove(alloc, v, drops),
         Call::MakeWritable => make_writable(alloc, v),
+        Call::Revert {
+            ident,
+            drop_newer,
+            family,
+        } => revert(alloc, v, *ident, *drop_newer, *family),
+        Call::Land { number, fill } => land(v, *number, *fill),
+        Call::Adopt {
+            head,
+            map,
+            family,
+            drops,
+        } => adopt(alloc, v, head, map, *family, drops),
+        Call::Restart => restart(v),
     }
 }
 
@@ -116,9 +221,8 @@ pub fn perform_all<D: Disk>(
     calls: &[Call],
 ) -> Result<(), VolumeFault>
     requires up { v.old.up ≡ true }
-    ensures assigned { OnOk result (IsTrue (D.state v.old.disk).told → AssignsAll calls.now (seen_of D.state v.old) (seen_of D.state v.new)) }
-    ensures up { OnOk result (v.new.up ≡ true) }
-    ensures told { (D.state v.new.disk).told ≡ (D.state v.old.disk).told }
+    requires ready { AreReady (D.state v.old.disk).told calls.now (plain D.state v.old) }
+    ensures { AreDone D.state calls.now v.old result v.new }
 {
     for call in calls {
         perform(alloc, v, call)?;

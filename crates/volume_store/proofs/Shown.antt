@@ -2,10 +2,10 @@
 use Rattle.std.proofs.Common.{◌≡◌, ◌⊎◌, inl, inr, ⊎_elim, ℕ, ◌+◌, ◌*◌, ◌-◌, ◌<◌, ◌≤◌, List, Bool, true, false, Some, None, IsTrue, refl, sym, ◌∙◌, ap, subst, arith}
 use Rattle.std.proofs.lemmas.Bool.{cases_order, false≢true}
 use Rattle.sm_disk.specs.Image.{Image, SameAt, SameOutside, IsOutside}
-use Rattle.sm_disk.specs.Disk.{DiskState, GoesOn, Steps, IsSynced, Wrote}
+use Rattle.sm_disk.specs.Disk.{DiskState, GoesOn, Steps, IsQuiet, IsSynced, Wrote}
 use Rattle.sm_disk.specs.Spared.{Spares}
 use Rattle.sm_disk.proofs.Parts.{part-same}
-use Rattle.sm_disk.proofs.Moments.{weaker}
+use Rattle.sm_disk.proofs.Moments.{weaker, joined}
 use Rattle.sm_disk.proofs.Calls.{seen_shows, image_told}
 use Rattle.sm_root.specs.declared.root.Root.{Root}
 use Rattle.sm_root.specs.Condition.{IsRoot, maps_of}
@@ -141,3 +141,7 @@ held_made state disk number maps good room small synced selects = record {
         blocks = λ n one used. ap (λ (x : Image). block_at x n) same;
       });
 }
+
+-- a restart, and a read after it
+pub restart_steps : (a b c : DiskState) → Steps a b → Steps b c → IsQuiet b c → Steps a c
+restart_steps a b c first second quiet = joined a b c c.may_leave (weaker a b b.may_leave c.may_leave first (λ x may. quiet.no_less x may)) second

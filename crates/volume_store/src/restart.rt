@@ -31,6 +31,7 @@ impl<D: Disk> Store<D> {
     /// Restarts the disk and reads which record is selected. `After` comes exactly where a commit
     /// failed since the volume was opened or restarted, and its record is the selected one. The volume
     /// is then that side's, with its stable image as the active one.
+    #[tactic(auto, using(crate::proofs::Shown::restart_steps))]
     pub fn restart(&mut self) -> Result<Side, VolumeFault>
         ensures ok { IfOk result (λ side. (maps : Maps) × (taken_side side self.old.maps self.old.after ≡ Some maps)
             × (self.new ≡ record { disk = self.new.disk; number = self.new.number; maps = restarted maps; after = None; up = true })) }
@@ -41,6 +42,7 @@ impl<D: Disk> Store<D> {
         ensures counted { OnErr result (IsCounted (D.state self.old.disk) (D.state self.new.disk)) }
         ensures image { IsTrue (D.state self.old.disk).told → (D.state self.old.disk).may_leave (D.state self.new.disk).seen }
         ensures synced { IsSynced (D.state self.new.disk) }
+        ensures time { Steps (D.state self.old.disk) (D.state self.new.disk) }
     {
         self.disk.restart();
         let slots = match Slots::open(&mut self.disk) {

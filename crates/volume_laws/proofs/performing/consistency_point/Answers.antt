@@ -1,5 +1,10 @@
-use Rattle.volume_laws.proofs.SeenLemmas.{point_assigned}
+use Rattle.sm_volume.specs.Assigned.{settled}
+use Rattle.volume_laws.specs.declared.call.Call.TheVariants as calls
+use Rattle.volume_laws.specs.Assigned.{Assigns}
+use Rattle.volume_laws.specs.Answered.{Answers}
+use Rattle.volume_laws.proofs.DoneLemmas.{done_commit}
 use Rattle.volume_laws.proofs.performing.consistency_point.Goals as goal
 
-pub returns-clause-assigned : goal.returns-clause-assigned
-returns-clause-assigned g c = point_assigned g.D.Disk.state c.args.v.now c.cp.new.self c.cp.result c.cp.ensures.commits
+pub returns : goal.returns
+unfolding Assigns Answers
+returns g c = done_commit g.D.Disk.state calls.ConsistencyPoint c.args.v.now c.cp.new.self (settled c.args.v.now.volume) c.cp.result c.requires.up c.cp.ensures.commits c.cp.ensures.refused (λ h. h)

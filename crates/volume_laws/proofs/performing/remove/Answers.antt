@@ -1,6 +1,21 @@
-use Rattle.std.proofs.Common.{refl}
-use Rattle.volume_laws.proofs.SeenLemmas.{remove_assigned}
+use Rattle.std.proofs.Common.{◌≡◌, List, subst}
+use Rattle.sm_base.specs.declared.numbers.Ident.{Ident}
+use Rattle.volume_store.specs.Refusals.{Refuses}
+use Rattle.sm_volume.specs.Assigned.{without}
+use Rattle.sm_volume.specs.Refusals.{remove_refusal}
+use Rattle.sm_volume.specs.Commits.{Commits}
+use Rattle.volume_laws.specs.declared.call.Call.TheVariants as calls
+use Rattle.volume_laws.specs.Assigned.{Assigns}
+use Rattle.volume_laws.specs.Answered.{Answers}
+use Rattle.volume_laws.proofs.DoneLemmas.{done_commit}
 use Rattle.volume_laws.proofs.performing.remove.Goals as goal
 
-pub returns-clause-assigned : goal.returns-clause-assigned
-returns-clause-assigned g c = remove_assigned g.D.Disk.state c.args.v.now c.remove.new.self c.args.ident _ c.remove.result refl c.remove.ensures.commits
+pub returns : goal.returns
+unfolding Assigns Answers
+returns g c =
+    let state = g.D.Disk.state in
+    let old = c.args.v.now in
+    let is : c.deref.result.now ≡ c.args.drops.now.items = c.deref.ensures.value in
+    done_commit state (calls.Remove c.args.drops.now) old c.remove.new.self (without old.volume c.args.drops.now.items) c.remove.result c.requires.up
+    (subst (λ (drops : List Ident). Commits state old (without old.volume drops) c.remove.result c.remove.new.self) is c.remove.ensures.commits)
+    (subst (λ (drops : List Ident). Refuses (remove_refusal old.volume drops) c.remove.result) is c.remove.ensures.refused) (λ h. h)

@@ -1,11 +1,19 @@
-use Rattle.std.proofs.Common.{refl}
-use Rattle.volume_laws.proofs.SeenLemmas.{stands_nowhere, snapshot_assigned}
+use Rattle.std.proofs.Common.{◌≡◌, true, false, refl}
+use Rattle.sm_defs.specs.Volume.{has}
+use Rattle.volume_store.specs.declared.head.Head.{Head}
+use Rattle.volume_laws.proofs.DoneLemmas.{done_taken, done_snapshot, no_memory_snapshot}
 use Rattle.volume_laws.proofs.performing.take.Goals as goal
 
-pub snapshot-requires-clause-new : goal.snapshot-requires-clause-new
-snapshot-requires-clause-new g c = let a = c.stands.ensures in let b = c.as_slice.ensures in let d = c.root.ensures in let e = c.if-stands.false in stands_nowhere c.args.ident c.args.v.now.maps.root.snapshots (cc)
+pub returns-then-has_snapshot : goal.returns-then-has_snapshot
+returns-then-has_snapshot g c =
+    let stands : has c.args.v.now.volume.snapshots c.args.ident ≡ true = let e = c.has_snapshot.ensures in let t = c.if-has_snapshot.true in cc in
+    done_taken g.D.Disk.state c.args.ident c.args.name.now c.args.label.now c.args.time c.args.v.now stands
 
-pub returns-clause-assigned : goal.returns-clause-assigned
-returns-clause-assigned g c =
-    snapshot_assigned g.D.Disk.state c.args.v.now c.snapshot.new.self (record { ident = c.args.ident; name = c.args.name; label = c.args.label; time = c.args.time; made = 0; map = c.args.v.now.maps.active })
-    c.snapshot.result refl refl c.snapshot.ensures.commits
+pub returns-in-Ok : goal.returns-in-Ok
+returns-in-Ok g c =
+    let k : Head = record { ident = c.args.ident; name = c.args.name.now; label = c.args.label.now; time = c.args.time; made = 0 } in
+    let stands : has c.args.v.now.volume.snapshots c.args.ident ≡ false = let e = c.has_snapshot.ensures in let t = c.if-has_snapshot.false in cc in
+    done_snapshot g.D.Disk.state c.in-Ok.head k c.args.v.now c.snapshot.new.self c.snapshot.result c.in-Ok.ensures refl c.requires.up stands c.snapshot.ensures.refused c.snapshot.ensures.commits
+
+pub returns-in-Err : goal.returns-in-Err
+returns-in-Err g c = no_memory_snapshot g.D.Disk.state c.args.ident c.args.name.now c.args.label.now c.args.time c.args.v.now
