@@ -6,3 +6,4 @@ pub mod Sound
 pub mod Used
 pub mod Found
 pub mod Together
+pub mod Committed
