@@ -1,4 +1,4 @@
-use Rattle.std.proofs.Common.{◌≡◌, ℕ, ◌+◌, ◌≤◌, ◌∷◌, length, map, take}
+use Rattle.std.proofs.Common.{◌≡◌, ℕ, ◌+◌, ◌≤◌, length, map, take}
 use Rattle.sm_bits.specs.Places.{has}
 use Rattle.volume_store.specs.Maps.{uses}
 use Rattle.sm_root.specs.Condition.{map_of}

@@ -1,4 +1,4 @@
-use Rattle.std.proofs.Common.{◌≡◌, ◌-◌, inr, List, ℕ, length, map, sym, subst}
+use Rattle.std.proofs.Common.{◌-◌, inr, List, ℕ, length, map, sym, subst}
 use Rattle.sm_defs.specs.Words.{Among}
 use Rattle.sm_root.specs.Condition.{map_of}
 use Rattle.volume_store.proofs.MapLemmas.{among_at_place, among_map}

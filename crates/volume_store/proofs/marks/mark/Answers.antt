@@ -1,4 +1,4 @@
-use Rattle.std.proofs.Common.{◌≡◌, true, get_or, take, sym, ◌∙◌, ap}
+use Rattle.std.proofs.Common.{get_or, take, sym, ◌∙◌, ap}
 use Rattle.sm_bits.specs.Places.{has}
 use Rattle.sm_defs.specs.Image.{stands}
 use Rattle.volume_store.proofs.MapLemmas.{still_there}

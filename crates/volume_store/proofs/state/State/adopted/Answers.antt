@@ -1,10 +1,10 @@
-use Rattle.std.proofs.Common.{◌≡◌, ◌≤◌, List, ℕ, [], ◌∷◌, ◌++◌, length, sym, refl, ◌∙◌, ap, ap₂, subst, inl}
+use Rattle.std.proofs.Common.{◌≡◌, ◌≤◌, List, ℕ, length, sym, refl, ◌∙◌, ap, ap₂, subst, inl}
 use Rattle.sm_defs.specs.Limits.{most_snapshots}
 use Rattle.sm_root.specs.declared.root.Root.{Root}
 use Rattle.sm_root.specs.declared.root.RootSnapshot.{RootSnapshot}
 use Rattle.sm_root.specs.Condition.{IsRoot}
 use Rattle.volume_store.specs.Maps.{Maps, AreMapsOf, all_maps}
-use Rattle.volume_store.specs.Next.{adopted, staying}
+use Rattle.volume_store.specs.Next.{adopted}
 use Rattle.volume_store.specs.Snapshot.{snapshot_of}
 use Rattle.volume_store.proofs.Sound.{maps_adopted, good_adopted, moved_maps, head_fits}
 use Rattle.volume_store.proofs.state.State.adopted.Goals as goal
