@@ -4,3 +4,4 @@ pub mod Told
 pub mod Logged
 pub mod Restarts
 pub mod Meets
+pub mod Copied

@@ -15,12 +15,12 @@ any_default [] i d e lt = absurd (omega arith)
 any_default (x ∷ xs) zero d e lt = refl
 any_default (x ∷ xs) (suc i) d e lt = any_default xs i d e (omega arith)
 
-get_or_first : (xs ys : List ℕ) (i d : ℕ) → i < length xs → get_or (xs ++ ys) i d ≡ get_or xs i d
+pub get_or_first : (xs ys : List ℕ) (i d : ℕ) → i < length xs → get_or (xs ++ ys) i d ≡ get_or xs i d
 get_or_first [] ys i d lt = absurd (omega arith)
 get_or_first (x ∷ xs) ys zero d lt = refl
 get_or_first (x ∷ xs) ys (suc i) d lt = get_or_first xs ys i d (omega arith)
 
-get_or_second : (xs ys : List ℕ) (i d : ℕ) → length xs ≤ i → get_or (xs ++ ys) i d ≡ get_or ys (i - length xs) d
+pub get_or_second : (xs ys : List ℕ) (i d : ℕ) → length xs ≤ i → get_or (xs ++ ys) i d ≡ get_or ys (i - length xs) d
 get_or_second [] ys i d le = let e : i - 0 ≡ i = omega arith in ap (λ (k : ℕ). get_or ys k d) (sym e)
 get_or_second (x ∷ xs) ys zero d le = absurd (omega arith)
 get_or_second (x ∷ xs) ys (suc i) d le = let e : suc i - suc (length xs) ≡ i - length xs = omega arith in get_or_second xs ys i d (omega arith) ∙ ap (λ (k : ℕ). get_or ys k d) (sym e)

@@ -9,6 +9,16 @@ use std::marker::Model;
 
 pub const PAGE: usize = 4096;
 
+// Puts bytes into the page from that place on.
+fn put_at(page: &mut [u8], from: usize, bytes: &[u8])
+    requires { from + length bytes.now ≤ length page.old }
+    ensures long { length page.new ≡ length page.old }
+    ensures image { page_image page.new ≡ over (page_image page.old) from bytes.now }
+{
+    let end = from + bytes.len();
+    page[from..end].copy_from_slice(bytes);
+}
+
 #[derive(Drop)]
 pub struct Page {
     bytes: Vec<u8>,
@@ -36,17 +46,14 @@ impl Page {
         requires { from + length into.old ≤ 4096 }
         ensures { into.new ≡ part (page_image self.now) from (length into.old) }
     {
-        for k in 0..into.len() {
-            into[k] = self.bytes[from + k];
-        }
+        let end = from + into.len();
+        into.copy_from_slice(&self.bytes[from..end]);
     }
 
     pub fn set(&mut self, from: usize, bytes: &[u8])
         requires { from + length bytes.now ≤ 4096 }
         ensures { page_image self.new ≡ over (page_image self.old) from bytes.now }
     {
-        for k in 0..bytes.len() {
-            self.bytes[from + k] = bytes[k];
-        }
+        put_at(&mut self.bytes, from, bytes);
     }
 }

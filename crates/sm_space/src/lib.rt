@@ -4,7 +4,7 @@
 #[cfg(test)]
 mod tests;
 
-ghost use Rattle.std.specs.Prelude.{◌≡◌, ◌≢◌, ◌+◌, ◌<◌, ◌≤◌, ◌==◌, true, false, None, length, slice_set, IfOk, MatchOption};
+ghost use Rattle.std.specs.Prelude.{◌≡◌, ◌≢◌, ◌+◌, ◌<◌, ◌≤◌, ◌==◌, true, false, None, length, replicate, slice_set, IfOk, MatchOption};
 ghost use Rattle.sm_bits.specs.Places.{has, size, HasNoneFrom, IsLeastFrom, IsNextFrom};
 ghost use Rattle.sm_space.specs.Free.{free_of};
 
@@ -13,21 +13,26 @@ use sm_bits::BitMap;
 use std::alloc::Global;
 use std::marker::Model;
 
-// Makes `free` the numbers that `used` does not have, of `end` places.
-fn free_numbers(free: &mut BitMap, used: &BitMap, end: u32)
+// Puts all numbers into an empty set of `end` places.
+fn fill(all: &mut BitMap, end: u32)
     requires some { 0 < end }
-    requires places { length used.now ≡ end }
-    requires same { length free.old ≡ end }
+    requires empty { all.old ≡ replicate end false }
+    ensures { all.new ≡ free_of (replicate end false) }
+{
+    for number in 1..end {
+        all.set(number);
+    }
+}
+
+// Makes `free` the numbers that `used` does not have, in whole words.
+fn leave_free(free: &mut BitMap, all: &BitMap, used: &BitMap)
+    requires same { length free.old ≡ length used.now }
+    requires hole { has free.old 0 ≡ false }
+    requires all { all.now ≡ free_of (replicate (length used.now) false) }
     ensures { free.new ≡ free_of used.now }
 {
-    free.clear(0);
-    for number in 1..end {
-        if used.test(number) {
-            free.clear(number);
-        } else {
-            free.set(number);
-        }
-    }
+    free.union(all);
+    free.minus(used);
 }
 
 /// The free numbers of the blocks from 1 to a physical size.
@@ -35,6 +40,8 @@ fn free_numbers(free: &mut BitMap, used: &BitMap, end: u32)
 pub struct Space {
     // Number 0 is the hole and never free.
     free: BitMap,
+    // All numbers but the hole, so that a reset works on whole words.
+    all: BitMap,
     // No number below it is free.
     least: u32,
     // How many numbers are free.
@@ -49,7 +56,7 @@ impl Model for Space {
 
     ghost view = { λ s. s.free };
 
-    ghost invariant = { λ s. AreFreeNumbers s.free s.least s.count };
+    ghost invariant = { λ s. AreFreeNumbers s.free s.all s.least s.count };
 }
 
 impl Space {
@@ -59,11 +66,14 @@ impl Space {
         ensures { IfOk result (λ space. space ≡ free_of used.now) }
     {
         let end = used.len();
-        let mut free = BitMap::new(alloc, physical + 1)?;
-        free_numbers(&mut free, used, end);
+        let mut all = BitMap::new(alloc, end)?;
+        fill(&mut all, end);
+        let mut free = BitMap::new(alloc, end)?;
+        leave_free(&mut free, &all, used);
         let count = free.count();
         Ok(Space {
             free,
+            all,
             least: 1,
             count,
         })
@@ -75,6 +85,7 @@ impl Space {
     {
         Ok(Space {
             free: self.free.copy(alloc)?,
+            all: self.all.copy(alloc)?,
             least: self.least,
             count: self.count,
         })
@@ -85,7 +96,7 @@ impl Space {
         requires { length used.now ≡ length self.old }
         ensures { self.new ≡ free_of used.now }
     {
-        free_numbers(&mut self.free, used, used.len());
+        leave_free(&mut self.free, &self.all, used);
         self.least = 1;
         self.count = self.free.count();
     }

@@ -5,3 +5,4 @@ pub mod Shown
 pub mod Sound
 pub mod Used
 pub mod Found
+pub mod Committed

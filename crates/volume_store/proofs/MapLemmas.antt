@@ -1,9 +1,11 @@
 -- Members of lists of maps, and the numbers that they use.
-use Rattle.std.proofs.Common.{◌≡◌, inl, inr, ℕ, zero, suc, ◌<◌, ◌≤◌, List, [], ◌∷◌, length, get_or, map, Bool, true, false, not, ◌||◌, refl, ◌∙◌, ap, arith}
+use Rattle.std.proofs.Common.{◌≡◌, inl, inr, ℕ, zero, suc, ◌<◌, ◌≤◌, List, [], ◌∷◌, ◌++◌, length, get_or, map, Bool, true, false, not, ◌||◌, refl, ◌∙◌, ap, arith}
 use Rattle.std.proofs.lemmas.List.{length-map, get_or-map}
 use Rattle.sm_bits.specs.Places.{has}
 use Rattle.sm_defs.specs.Image.{stands}
 use Rattle.sm_defs.specs.Words.{Among}
+use Rattle.sm_root.specs.declared.root.RootSnapshot.{RootSnapshot}
+use Rattle.sm_root.specs.Condition.{map_of}
 use Rattle.sm_space.specs.Free.{free_of}
 use Rattle.volume_store.specs.Maps.{uses, AreUsed, AreFree}
 
@@ -50,3 +52,25 @@ used_more old new physical map maps are long each = record {
     or_comm true false = refl
     or_comm false true = refl
     or_comm false false = refl
+
+-- one more map is marked in a copy
+pub marked : (start copy new : List Bool) (physical : ℕ) (map given : List ℕ) (maps : List (List ℕ)) → AreUsed start physical maps → copy ≡ start → given ≡ map → length new ≡ length copy
+    → ((n : ℕ) → has new n ≡ (has copy n || stands n given)) → AreUsed new physical (map ∷ maps)
+marked start copy new physical map given maps are same is long each =
+    used_more start new physical map maps are (long ∙ ap (λ (s : List Bool). length s) same)
+    (λ n. each n ∙ ap (λ (s : List Bool). has s n || stands n given) same ∙ ap (λ (xs : List ℕ). has start n || stands n xs) is)
+
+-- the marks of as many maps that use the same numbers
+pub used_same : (set : List Bool) (physical : ℕ) (maps maps' : List (List ℕ)) → AreUsed set physical maps → ((n : ℕ) → uses maps n ≡ uses maps' n) → AreUsed set physical maps'
+used_same set physical maps maps' are same = record { long = are.long; each = λ n within. are.each n within ∙ same n }
+
+-- the map of a snapshot behind others
+pub uses_behind : (snapshots : List RootSnapshot) (s : RootSnapshot) (n : ℕ) → uses (s.map ∷ map map_of snapshots) n ≡ uses (map map_of (snapshots ++ s ∷ [])) n
+uses_behind [] s n = refl
+uses_behind (t ∷ ts) s n = swap (stands n s.map) (stands n t.map) (uses (map map_of ts) n) ∙ ap (λ b. stands n t.map || b) (uses_behind ts s n)
+  where
+    swap : (a b c : Bool) → (a || (b || c)) ≡ (b || (a || c))
+    swap true true c = refl
+    swap true false c = refl
+    swap false true c = refl
+    swap false false c = refl

@@ -1,15 +1,19 @@
 -- The maps of a volume, and which physical numbers they use.
-use Rattle.std.specs.Prelude.{◌≡◌, ℕ, ◌+◌, ◌<◌, ◌≤◌, not, Bool, true, false, List, ◌∷◌, length, slice_index}
+use Rattle.std.specs.Prelude.{◌≡◌, ℕ, ◌+◌, ◌<◌, ◌≤◌, not, Bool, true, false, List, ◌∷◌, length, slice_index, map}
 use Rattle.std.specs.List.{list_any}
 use Rattle.sm_bits.specs.Places.{has}
 use Rattle.sm_defs.specs.Image.{stands}
 use Rattle.sm_defs.specs.Words.{Among}
 use Rattle.sm_root.specs.declared.root.Root.{Root}
-use Rattle.sm_root.specs.Condition.{IsRoot, maps_of}
+use Rattle.sm_root.specs.Condition.{IsRoot, map_of, maps_of}
 
 -- the maps that a restart needs: the stable one, and those of the snapshots
 abbrev pub kept_maps : Root → List (List ℕ)
 kept_maps r = maps_of r
+
+-- those of the snapshots alone
+abbrev pub held_maps : Root → List (List ℕ)
+held_maps r = map map_of r.snapshots
 
 abbrev pub all_maps : Root → List ℕ → List (List ℕ)
 all_maps r active = active ∷ kept_maps r
@@ -44,10 +48,11 @@ pub record Maps : Type 0 where
   pub root : Root
   pub active : List ℕ
 
--- What is kept beside the maps: which numbers a restart needs, and which are free.
-pub record AreKept (root : Root) (active : List ℕ) (kept space : List Bool) : Type 0 where
+-- What is kept beside the maps: which numbers the snapshots use, which a restart needs, and which are free.
+pub record AreKept (root : Root) (active : List ℕ) (held kept space : List Bool) : Type 0 where
   pub maps : AreMapsOf root.logical root.physical (all_maps root active)
   pub good : IsRoot root
+  pub snapshots : AreUsed held root.physical (held_maps root)
   pub used : AreUsed kept root.physical (kept_maps root)
   pub free : AreFree space root.physical (all_maps root active)
 

@@ -84,13 +84,34 @@ impl State {
         Ok(Vec::from_slice(alloc, &self.active)?)
     }
 
+    // The root with these lists.
+    fn root_with(&self, stable: Vec<u32>, snapshots: Vec<RootSnapshot>) -> Root
+        ensures { result ≡ record self.now.root { stable = stable.items; snapshots = snapshots.items } }
+    {
+        Root {
+            number: self.root.number,
+            kind: self.root.kind,
+            family: self.root.family,
+            logical: self.root.logical,
+            physical: self.root.physical,
+            next: self.root.next,
+            stable: BlockMap::from_vec(stable),
+            snapshots: Snapshots::from_vec(snapshots),
+        }
+    }
+
     // A consistency point.
     pub(crate) fn settled(&self, alloc: Global) -> Result<State, NoMemory>
         ensures { IfOk result (λ next. next ≡ settled self.now) }
     {
-        let mut root = self.root.copy(alloc)?;
-        root.stable = BlockMap::from_vec(self.active_copy(alloc)?);
-        State::new(alloc, root, self.active_copy(alloc)?)
+        let snapshots = self.root.snapshots.copy(alloc)?.into_vec();
+        let root = self.root_with(self.active_copy(alloc)?, snapshots);
+        self.following(
+            alloc,
+            root,
+            self.active_copy(alloc)?,
+            self.held_copy(alloc)?,
+        )
     }
 
     // Clients may write it.
@@ -99,7 +120,12 @@ impl State {
     {
         let mut root = self.root.copy(alloc)?;
         root.kind = Kind::Rw;
-        State::new(alloc, root, self.active_copy(alloc)?)
+        self.following(
+            alloc,
+            root,
+            self.active_copy(alloc)?,
+            self.held_copy(alloc)?,
+        )
     }
 
     // Without these snapshots.
@@ -107,9 +133,9 @@ impl State {
         ensures { IfOk result (λ next. next ≡ without self.now drops.now) }
     {
         let list = staying_of(alloc, drops, self.root.snapshots.as_slice())?;
-        let mut root = self.root.copy(alloc)?;
-        root.snapshots = Snapshots::from_vec(list);
-        State::new(alloc, root, self.active_copy(alloc)?)
+        let stable = self.root.stable.copy(alloc)?.into_vec();
+        let root = self.root_with(stable, list);
+        self.remade(alloc, root, self.active_copy(alloc)?)
     }
 
     // A consistency point, and a snapshot of it behind the others.
@@ -123,11 +149,10 @@ impl State {
         let next = next_after_of(self.root.next, head.ident);
         let mut list = self.root.snapshots.copy(alloc)?.into_vec();
         list.push(head.with_map(self.active_copy(alloc)?))?;
-        let mut root = self.root.copy(alloc)?;
+        let mut root = self.root_with(self.active_copy(alloc)?, list);
         root.next = next;
-        root.stable = BlockMap::from_vec(self.active_copy(alloc)?);
-        root.snapshots = Snapshots::from_vec(list);
-        State::new(alloc, root, self.active_copy(alloc)?)
+        let held = self.held_with_active(alloc)?;
+        self.following(alloc, root, self.active_copy(alloc)?, held)
     }
 
     // Another map, which a new snapshot has, and without the snapshots that are among these.
@@ -148,11 +173,17 @@ impl State {
     {
         head.told();
         let active = Vec::from_slice(alloc, &map)?;
-        let mut root = self.root.copy(alloc)?;
-        root.family = family;
-        root.stable = BlockMap::from_vec(map);
-        root.snapshots = Snapshots::from_vec(list);
-        State::new(alloc, root, active)
+        let root = Root {
+            number: self.root.number,
+            kind: self.root.kind,
+            family,
+            logical: self.root.logical,
+            physical: self.root.physical,
+            next: self.root.next,
+            stable: BlockMap::from_vec(map),
+            snapshots: Snapshots::from_vec(list),
+        };
+        self.remade(alloc, root, active)
     }
 
     // A destination with the map of the snapshot of this identity, and with all snapshots or with those
@@ -189,12 +220,11 @@ impl State {
         let active = Vec::from_slice(alloc, snapshot.map.as_slice())?;
         let mut list = self.root.snapshots.copy(alloc)?.into_vec();
         list.truncate(count);
-        let mut root = self.root.copy(alloc)?;
+        let stable = snapshot.map.copy(alloc)?.into_vec();
+        let mut root = self.root_with(stable, list);
         root.kind = Kind::Dp;
         root.family = family;
-        root.stable = snapshot.map.copy(alloc)?;
-        root.snapshots = Snapshots::from_vec(list);
-        State::new(alloc, root, active)
+        self.remade(alloc, root, active)
     }
 }
 

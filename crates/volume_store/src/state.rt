@@ -1,16 +1,16 @@
 // The maps of a volume and what is known of their numbers, without a disk.
-ghost use Rattle.std.specs.Prelude.{◌≡◌, ◌≢◌, true, false, ℕ, ◌+◌, ◌<◌, ◌≤◌, length, slice_index, slice_set, IfOk, IfNone, OnSome, IfSome, OnOk, OnErr, IsOk, Some, None, List, find, MatchOption};
+ghost use Rattle.std.specs.Prelude.{◌≡◌, ◌≢◌, true, false, ℕ, ◌+◌, ◌<◌, ◌≤◌, ◌∷◌, length, slice_index, slice_set, IfOk, IfNone, OnSome, IfSome, OnOk, OnErr, IsOk, Some, None, List, find, MatchOption};
 ghost use Rattle.std.specs.Option.{option_copied};
 ghost use Rattle.sm_defs.specs.Words.{same_ident, Among};
 ghost use Rattle.sm_defs.specs.Limits.{most_snapshots, last_number};
 ghost use Rattle.volume_store.specs.Refusals.{is_full, used_of, read_refusal, map_seen, has_snapshot};
 ghost use Rattle.volume_store.specs.Next.{next_after};
 ghost use Rattle.sm_root.specs.Condition.{IsRoot};
-ghost use Rattle.volume_store.specs.Maps.{Maps, all_maps, kept_maps, AreMapsOf, uses, IsLeastFree};
+ghost use Rattle.volume_store.specs.Maps.{Maps, all_maps, kept_maps, held_maps, AreMapsOf, AreUsed, uses, IsLeastFree};
 
 use crate::faults::VolumeFault;
 use crate::io::View;
-use crate::marks::{kept_numbers, mark};
+use crate::marks::{held_numbers, mark};
 use crate::next::same;
 use sm_base::{Ident, NoMemory};
 use sm_bits::BitMap;
@@ -27,6 +27,8 @@ const LAST_NUMBER: u64 = 1 << 62;
 pub(crate) struct State {
     pub(crate) root: Root,
     pub(crate) active: Vec<u32>,
+    // What the snapshots use: a commit that drops none need not read them for it.
+    pub(crate) held: BitMap,
     // What the stable map and the snapshots use: a restart needs it.
     pub(crate) kept: BitMap,
     pub(crate) space: Space,
@@ -39,7 +41,7 @@ impl Model for State {
 
     ghost view = { λ s. record { root = s.root; active = s.active.items } };
 
-    ghost invariant = { λ s. AreKept s.root s.active.items s.kept s.space };
+    ghost invariant = { λ s. AreKept s.root s.active.items s.held s.kept s.space };
 }
 
 impl State {
@@ -49,16 +51,88 @@ impl State {
         requires good { IsRoot root }
         ensures { IfOk result (λ state. state ≡ record { root = root; active = active.items }) }
     {
-        let kept = kept_numbers(alloc, &root)?;
+        let held = held_numbers(alloc, &root)?;
+        let space = Space::new(alloc, root.physical, &held)?;
+        State::with_held(alloc, root, active, held, space)
+    }
+
+    // A root with this active map, where it is known what the snapshots use. Of the space only the size counts.
+    fn with_held(
+        alloc: Global,
+        root: Root,
+        active: Vec<u32>,
+        held: BitMap,
+        space: Space,
+    ) -> Result<State, NoMemory>
+        requires maps { AreMapsOf root.logical root.physical (all_maps root active.items) }
+        requires good { IsRoot root }
+        requires held { AreUsed held root.physical (held_maps root) }
+        requires size { length space ≡ root.physical + 1 }
+        ensures { IfOk result (λ state. state ≡ record { root = root; active = active.items }) }
+    {
+        let mut kept = held.copy(alloc)?;
+        mark(&mut kept, root.stable.as_slice());
         let mut used = kept.copy(alloc)?;
         mark(&mut used, &active);
-        let space = Space::new(alloc, root.physical, &used)?;
+        let mut space = space;
+        space.reset(&used);
         Ok(State {
             root,
             active,
+            held,
             kept,
             space,
         })
+    }
+
+    // The state of another root of the same disk, where it is known what its snapshots use.
+    pub(crate) fn following(
+        &self,
+        alloc: Global,
+        root: Root,
+        active: Vec<u32>,
+        held: BitMap,
+    ) -> Result<State, NoMemory>
+        requires maps { AreMapsOf root.logical root.physical (all_maps root active.items) }
+        requires good { IsRoot root }
+        requires held { AreUsed held root.physical (held_maps root) }
+        requires same { root.physical ≡ self.now.root.physical }
+        ensures { IfOk result (λ state. state ≡ record { root = root; active = active.items }) }
+    {
+        let space = self.space.copy(alloc)?;
+        State::with_held(alloc, root, active, held, space)
+    }
+
+    // The same where snapshots go or another map comes.
+    pub(crate) fn remade(
+        &self,
+        alloc: Global,
+        root: Root,
+        active: Vec<u32>,
+    ) -> Result<State, NoMemory>
+        requires maps { AreMapsOf root.logical root.physical (all_maps root active.items) }
+        requires good { IsRoot root }
+        requires same { root.physical ≡ self.now.root.physical }
+        ensures { IfOk result (λ state. state ≡ record { root = root; active = active.items }) }
+    {
+        let held = held_numbers(alloc, &root)?;
+        self.following(alloc, root, active, held)
+    }
+
+    // A copy of what the snapshots use.
+    pub(crate) fn held_copy(&self, alloc: Global) -> Result<BitMap, NoMemory>
+        ensures { IfOk result (λ held. AreUsed held self.now.root.physical (held_maps self.now.root)) }
+    {
+        Ok(self.held.copy(alloc)?)
+    }
+
+    // What the snapshots use, and one more of the active map.
+    pub(crate) fn held_with_active(&self, alloc: Global) -> Result<BitMap, NoMemory>
+        ensures { IfOk result (λ held. AreUsed held self.now.root.physical (self.now.active ∷ held_maps self.now.root)) }
+    {
+        let mut held = self.held.copy(alloc)?;
+        mark(&mut held, &self.active);
+        Ok(held)
     }
 
     pub(crate) fn root(&self) -> &Root

@@ -6,30 +6,32 @@ use Rattle.volume_store.proofs.PutLemmas.{put_maps, free_still, free_given, take
 use Rattle.volume_store.proofs.state.State.put.Goals as goal
 
 -- what is known of the fields
-module _ (v : Maps) (kept space : List Bool) (are : AreKept v.root v.active kept space) (at n : ℕ) (inside : at < length v.active) (least : IsLeastFree v n) where
+module _ (v : Maps) (held kept space : List Bool) (are : AreKept v.root v.active held kept space) (at n : ℕ) (inside : at < length v.active) (least : IsLeastFree v n) where
   pub the_maps : AreMapsOf v.root.logical v.root.physical (set v.active at n ∷ kept_maps v.root)
   the_maps = put_maps v.root.logical v.root.physical (kept_maps v.root) v.active are.maps at n inside least.from_one least.within least.unused
 
-  pub stays : (after : List Bool) → after ≡ set space n false → (get_or v.active at 0 ≡ 0) ⊎ (uses (kept_maps v.root) (get_or v.active at 0) ≡ true) → AreKept v.root (set v.active at n) kept after
+  pub stays : (after : List Bool) → after ≡ set space n false → (get_or v.active at 0 ≡ 0) ⊎ (uses (kept_maps v.root) (get_or v.active at 0) ≡ true) → AreKept v.root (set v.active at n) held kept after
   stays after is used = record {
     maps = the_maps;
     good = are.good;
+    snapshots = are.snapshots;
     used = are.used;
     free = subst (λ s. AreFree s v.root.physical (set v.active at n ∷ kept_maps v.root)) (sym is)
         (free_still v.root.logical v.root.physical (kept_maps v.root) v.active are.maps at n inside least.from_one least.within least.unused space are.free used);
   }
 
-  pub goes : (after : List Bool) → after ≡ set (set space n false) (get_or v.active at 0) true → 0 < get_or v.active at 0 → uses (kept_maps v.root) (get_or v.active at 0) ≡ false → AreKept v.root (set v.active at n) kept after
+  pub goes : (after : List Bool) → after ≡ set (set space n false) (get_or v.active at 0) true → 0 < get_or v.active at 0 → uses (kept_maps v.root) (get_or v.active at 0) ≡ false → AreKept v.root (set v.active at n) held kept after
   goes after is full gone = record {
     maps = the_maps;
     good = are.good;
+    snapshots = are.snapshots;
     used = are.used;
     free = subst (λ s. AreFree s v.root.physical (set v.active at n ∷ kept_maps v.root)) (sym is)
         (free_given v.root.logical v.root.physical (kept_maps v.root) v.active are.maps at n inside least.from_one least.within least.unused space are.free full gone);
   }
 
 -- the least one is taken
-module _ (v : Maps) (kept space : List Bool) (are : AreKept v.root v.active kept space) (n : ℕ) (least : IsLeastFree v n) where
+module _ (v : Maps) (held kept space : List Bool) (are : AreKept v.root v.active held kept space) (n : ℕ) (least : IsLeastFree v n) where
   pub taken : (result : Option ℕ) (after : List Bool) → MatchOption result (after ≡ space) (λ number. after ≡ set space number false) → IsNextFrom space 0 result → after ≡ set space n false
   taken result after is next =
       let some : result ≡ Some n = taken_least v space after n result are.free least next in
@@ -47,9 +49,9 @@ invariant_of-self c =
     let least : IsLeastFree v n = subst (λ (m : Maps). IsLeastFree m n) (sym c.self.view_is) c.requires.least in
     let before : c.index-before.result.now ≡ get_or v.active at 0 = get_or_read v.active at c.index-before.result.now inside c.index-before.ensures 0 in
     let full : 0 < get_or v.active at 0 = (let h = c.if-before-ne0.true in omega (arith, before, h)) in
-    let gone : uses (kept_maps v.root) (get_or v.active at 0) ≡ false = sym (kept_is v c.self.inside.kept c.self.inside.space c.self.invariant n least at c.index-before.result.now before) ∙ sym c.test.ensures ∙ c.if-not-test.true in
-    goes v c.self.inside.kept c.self.inside.space c.self.invariant at n inside least c.give.new.self
-    (c.give.ensures ∙ ap (λ s. set s c.index-before.result.now true) (taken v c.self.inside.kept c.self.inside.space c.self.invariant n least c.take.result c.take.new.self c.take.ensures.taken c.take.ensures.least)
+    let gone : uses (kept_maps v.root) (get_or v.active at 0) ≡ false = sym (kept_is v c.self.inside.held c.self.inside.kept c.self.inside.space c.self.invariant n least at c.index-before.result.now before) ∙ sym c.test.ensures ∙ c.if-not-test.true in
+    goes v c.self.inside.held c.self.inside.kept c.self.inside.space c.self.invariant at n inside least c.give.new.self
+    (c.give.ensures ∙ ap (λ s. set s c.index-before.result.now true) (taken v c.self.inside.held c.self.inside.kept c.self.inside.space c.self.invariant n least c.take.result c.take.new.self c.take.ensures.taken c.take.ensures.least)
     ∙ ap (λ b. set (set c.self.inside.space n false) b true) before)
     full gone
 
@@ -61,9 +63,9 @@ invariant_of-self-else-not-test c =
     let inside : at < length v.active = subst (λ (m : Maps). at < length m.active) (sym c.self.view_is) c.requires.place in
     let least : IsLeastFree v n = subst (λ (m : Maps). IsLeastFree m n) (sym c.self.view_is) c.requires.least in
     let before : c.index-before.result.now ≡ get_or v.active at 0 = get_or_read v.active at c.index-before.result.now inside c.index-before.ensures 0 in
-    let used : uses (kept_maps v.root) (get_or v.active at 0) ≡ true = sym (kept_is v c.self.inside.kept c.self.inside.space c.self.invariant n least at c.index-before.result.now before) ∙ sym c.test.ensures ∙ c.if-not-test.false in
-    stays v c.self.inside.kept c.self.inside.space c.self.invariant at n inside least c.take.new.self
-    (taken v c.self.inside.kept c.self.inside.space c.self.invariant n least c.take.result c.take.new.self c.take.ensures.taken c.take.ensures.least) (inr used)
+    let used : uses (kept_maps v.root) (get_or v.active at 0) ≡ true = sym (kept_is v c.self.inside.held c.self.inside.kept c.self.inside.space c.self.invariant n least at c.index-before.result.now before) ∙ sym c.test.ensures ∙ c.if-not-test.false in
+    stays v c.self.inside.held c.self.inside.kept c.self.inside.space c.self.invariant at n inside least c.take.new.self
+    (taken v c.self.inside.held c.self.inside.kept c.self.inside.space c.self.invariant n least c.take.result c.take.new.self c.take.ensures.taken c.take.ensures.least) (inr used)
 
 pub invariant_of-self-else-before-ne0 : goal.invariant_of-self-else-before-ne0
 invariant_of-self-else-before-ne0 c =
@@ -73,5 +75,5 @@ invariant_of-self-else-before-ne0 c =
     let inside : at < length v.active = subst (λ (m : Maps). at < length m.active) (sym c.self.view_is) c.requires.place in
     let least : IsLeastFree v n = subst (λ (m : Maps). IsLeastFree m n) (sym c.self.view_is) c.requires.least in
     let before : c.index-before.result.now ≡ get_or v.active at 0 = get_or_read v.active at c.index-before.result.now inside c.index-before.ensures 0 in
-    stays v c.self.inside.kept c.self.inside.space c.self.invariant at n inside least c.take.new.self
-    (taken v c.self.inside.kept c.self.inside.space c.self.invariant n least c.take.result c.take.new.self c.take.ensures.taken c.take.ensures.least) (inl (sym before ∙ c.if-before-ne0.false))
+    stays v c.self.inside.held c.self.inside.kept c.self.inside.space c.self.invariant at n inside least c.take.new.self
+    (taken v c.self.inside.held c.self.inside.kept c.self.inside.space c.self.invariant n least c.take.result c.take.new.self c.take.ensures.taken c.take.ensures.least) (inl (sym before ∙ c.if-before-ne0.false))

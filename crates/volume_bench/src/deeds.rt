@@ -1,0 +1,61 @@
+// What is done so and so often.
+use crate::record::{encode_often, write_often};
+use crate::volume::{Size, commit_often, prepared, remove_often, snapshot_often, write_blocks};
+use std::alloc::Global;
+use volume_store::VolumeFault;
+
+/// What is timed.
+#[derive(Clone, Copy, Debug, PartialEq, Eq)]
+pub enum Deed {
+    /// A client's write.
+    Write,
+    /// Four writes and a consistency point.
+    Commit,
+    /// A snapshot, and its removal.
+    Snapshot,
+    /// A removal of no snapshot, which commits as each removal does.
+    Remove,
+    /// The encoding of the root.
+    Encode,
+    /// What a commit has the disk do.
+    Disk,
+}
+
+/// A run of the program.
+#[derive(Clone, Copy, Debug, PartialEq, Eq)]
+pub struct Plan {
+    pub deed: Deed,
+    pub size: Size,
+    pub snapshots: u32,
+    pub count: u32,
+}
+
+/// The deed of a word.
+pub fn deed_of(word: &str) -> Option<Deed> {
+    match word {
+        "write" => Some(Deed::Write),
+        "commit" => Some(Deed::Commit),
+        "snapshot" => Some(Deed::Snapshot),
+        "remove" => Some(Deed::Remove),
+        "encode" => Some(Deed::Encode),
+        "disk" => Some(Deed::Disk),
+        _ => None,
+    }
+}
+
+/// Makes the volume and does the deed. The answer is how many blocks are used, or how long the record
+/// is.
+pub fn perform(alloc: Global, plan: &Plan) -> Result<usize, VolumeFault> {
+    if plan.deed == Deed::Disk {
+        return write_often(alloc, plan.size, plan.snapshots, plan.count);
+    }
+    let mut volume = prepared(alloc, plan.size, plan.snapshots)?;
+    match plan.deed {
+        Deed::Write => write_blocks(&mut volume, 0, plan.count)?,
+        Deed::Commit => commit_often(alloc, &mut volume, plan.count)?,
+        Deed::Snapshot => snapshot_often(alloc, &mut volume, plan.count)?,
+        Deed::Remove => remove_often(alloc, &mut volume, plan.count)?,
+        Deed::Encode | Deed::Disk => return encode_often(alloc, volume, plan.count),
+    }
+    Ok(volume.used() as usize)
+}

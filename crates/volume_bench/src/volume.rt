@@ -1,0 +1,173 @@
+// The calls of a volume.
+ghost use Rattle.std.specs.Prelude.{◌≡◌, true, false, OnOk, IfOk};
+ghost use Rattle.std.specs.List.{list_any};
+ghost use Rattle.sm_defs.specs.Words.{Among, same_ident};
+ghost use Rattle.sm_root.specs.declared.root.RootSnapshot.{RootSnapshot};
+
+use sm_base::{Block, Ident, Kind, NameFault, NoMemory, SnapName, VolNo};
+use sm_memdisk::MemDisk;
+use sm_root::RootSnapshot;
+use std::alloc::Global;
+use volume_store::{Store, VolumeFault};
+
+/// How large a volume is made.
+#[derive(Clone, Copy, Debug, PartialEq, Eq)]
+pub enum Size {
+    /// 4 logical and 16 physical blocks.
+    Small,
+    /// 4,096 logical and 16,384 physical blocks.
+    Large,
+}
+
+impl Size {
+    /// How many blocks an image has.
+    pub fn logical(self) -> u32 {
+        match self {
+            Size::Small => 4,
+            Size::Large => 4096,
+        }
+    }
+
+    /// The length of the disk.
+    pub fn disk_len(self) -> u64 {
+        match self {
+            Size::Small => 25_792_512,
+            Size::Large => 92_835_840,
+        }
+    }
+}
+
+// A volume of holes.
+fn empty(alloc: Global, size: Size) -> Result<Store<MemDisk>, VolumeFault>
+    ensures { IfOk result (λ v. v.up ≡ true) }
+{
+    let disk = MemDisk::new(alloc, size.disk_len())?;
+    let made = match size {
+        Size::Small => Store::create(alloc, disk, VolNo(1), Kind::Rw, 4, 16),
+        Size::Large => Store::create(alloc, disk, VolNo(1), Kind::Rw, 4096, 16384),
+    };
+    match made {
+        Ok(volume) => Ok(volume),
+        Err((_, fault)) => Err(fault),
+    }
+}
+
+/// Writes so many blocks, the first at the place `from`.
+pub fn write_blocks(volume: &mut Store<MemDisk>, from: u32, count: u32) -> Result<(), VolumeFault>
+    requires { volume.old.up ≡ true }
+    ensures { OnOk result (volume.new.up ≡ true) }
+{
+    let logical = volume.root().logical.max(1);
+    let block = Block([7; 4096]);
+    for k in 0..count {
+        volume.write(from.wrapping_add(k) % logical, &block)?;
+    }
+    Ok(())
+}
+
+// Whether a snapshot has the identity.
+fn has_ident(snapshots: &[RootSnapshot], ident: Ident) -> bool
+    ensures { result ≡ list_any (λ s. same_ident s.ident ident) snapshots.now }
+{
+    snapshots.iter().any(|snapshot| {
+        snapshot.ident.origin == ident.origin && snapshot.ident.seq == ident.seq
+    })
+}
+
+// Whether the identity is not new.
+fn is_taken(snapshots: &[RootSnapshot], ident: Ident) -> bool
+    ensures { result ≡ false → (s : RootSnapshot) → Among snapshots.now s → ¬ (s.ident ≡ ident) }
+{
+    has_ident(snapshots, ident)
+}
+
+// Takes the snapshot of that number.
+fn take_snapshot(alloc: Global, volume: &mut Store<MemDisk>, number: u32) -> Result<(), VolumeFault>
+    requires { volume.old.up ≡ true }
+    ensures { OnOk result (volume.new.up ≡ true) }
+{
+    let ident = ident_of(number);
+    if is_taken(volume.root().snapshots.as_slice(), ident) {
+        return Err(VolumeFault::SnapFull);
+    }
+    let text = name_of(alloc, number)?;
+    match SnapName::read(alloc, text.as_bytes()) {
+        Ok(name) => volume.snapshot(alloc, ident, name, None, 0, 0),
+        Err(NameFault::BadName) => Err(VolumeFault::NameTaken),
+        Err(NameFault::NoMemory) => Err(VolumeFault::NoMemory),
+    }
+}
+
+fn name_of(alloc: Global, number: u32) -> Result<String, NoMemory> {
+    Ok(format!(in alloc; "s{number}")?)
+}
+
+// The identity of a client's snapshot.
+fn ident_of(number: u32) -> Ident {
+    Ident {
+        origin: 1,
+        seq: 2 * number as u64,
+    }
+}
+
+/// A volume with all its blocks written, and with so many snapshots, between which a block is written.
+pub fn prepared(alloc: Global, size: Size, snapshots: u32) -> Result<Store<MemDisk>, VolumeFault>
+    ensures { IfOk result (λ v. v.up ≡ true) }
+{
+    let mut volume = empty(alloc, size)?;
+    write_blocks(&mut volume, 0, size.logical())?;
+    for number in 0..snapshots {
+        write_blocks(&mut volume, number, 1)?;
+        take_snapshot(alloc, &mut volume, number)?;
+    }
+    volume.cp(alloc)?;
+    Ok(volume)
+}
+
+/// Makes consistency points, before each of which four blocks are written.
+pub fn commit_often(
+    alloc: Global,
+    volume: &mut Store<MemDisk>,
+    count: u32,
+) -> Result<(), VolumeFault>
+    requires { volume.old.up ≡ true }
+    ensures { OnOk result (volume.new.up ≡ true) }
+{
+    for k in 0..count {
+        write_blocks(volume, k.wrapping_mul(4), 4)?;
+        volume.cp(alloc)?;
+    }
+    Ok(())
+}
+
+/// Takes a snapshot and removes it, time after time.
+pub fn snapshot_often(
+    alloc: Global,
+    volume: &mut Store<MemDisk>,
+    count: u32,
+) -> Result<(), VolumeFault>
+    requires { volume.old.up ≡ true }
+    ensures { OnOk result (volume.new.up ≡ true) }
+{
+    for k in 0..count {
+        let number = k.saturating_add(1000);
+        take_snapshot(alloc, volume, number)?;
+        volume.remove(alloc, &[ident_of(number)])?;
+    }
+    Ok(())
+}
+
+/// Removes no snapshot, time after time.
+pub fn remove_often(
+    alloc: Global,
+    volume: &mut Store<MemDisk>,
+    count: u32,
+) -> Result<(), VolumeFault>
+    requires { volume.old.up ≡ true }
+    ensures { OnOk result (volume.new.up ≡ true) }
+{
+    for _ in 0..count {
+        volume.remove(alloc, &[])?;
+    }
+    Ok(())
+}
