@@ -1,2 +1,2 @@
-pub mod NoneHas
+pub mod HasKept
 pub mod PairFits

@@ -1,9 +1,9 @@
 // A volume against the plain definitions, call after call.
-ghost use Rattle.std.specs.Prelude.{◌≡◌, true, false, Err, OnOk, IfOk};
+ghost use Rattle.std.specs.Prelude.{◌≡◌, true, Err, OnOk, IfOk};
 ghost use Rattle.std.specs.List.{list_any};
-ghost use Rattle.sm_defs.specs.Words.{Among, same_ident};
-ghost use Rattle.sm_root.specs.declared.root.RootSnapshot.{RootSnapshot};
-ghost use Rattle.sm_volume.specs.declared.faults.VolumeFault.{VolumeFault};
+ghost use Rattle.sm_defs.specs.Volume.{has};
+ghost use Rattle.sm_defs.specs.Words.{same_ident};
+ghost use Rattle.volume_store.specs.declared.faults.VolumeFault.{VolumeFault};
 
 use crate::plain::{Call, Kept, Plain};
 use crate::tests::{full, is_full, made};
@@ -120,11 +120,11 @@ fn has_ident(snapshots: &[RootSnapshot], ident: Ident) -> bool
     })
 }
 
-// Whether the identity is not new.
-fn is_taken(snapshots: &[RootSnapshot], ident: Ident) -> bool
-    ensures { result ≡ false → (s : RootSnapshot) → Among snapshots.now s → ¬ (s.ident ≡ ident) }
+// Whether the volume has a snapshot of the identity.
+fn is_taken(volume: &Volume<MemDisk>, ident: Ident) -> bool
+    ensures { result ≡ has volume.now.volume.snapshots ident }
 {
-    has_ident(snapshots, ident)
+    has_ident(volume.root().snapshots.as_slice(), ident)
 }
 
 // A snapshot of an identity that is new.
@@ -137,7 +137,7 @@ fn snapshot(
     requires { volume.old.up ≡ true }
     ensures { (result ≡ Err VolumeFault.DiskFault → ⊥) → volume.new.up ≡ true }
 {
-    if is_taken(volume.root().snapshots.as_slice(), ident) {
+    if is_taken(volume, ident) {
         return Err(VolumeFault::SnapFull);
     }
     match SnapName::read(alloc, name) {
@@ -266,8 +266,8 @@ fn run_rows<R: AllocGlobal + Abort>(
 }
 
 // A destination that has taken over an image of two blocks.
-#[tactic(auto, using(crate::proofs::PairFits::pair_fits))]
-fn destination(alloc: Global) -> Result<Volume<MemDisk>, Fail>
+#[tactic(auto, using(crate::proofs::PairFits::pair_fits, crate::proofs::PairFits::one_is_free, crate::proofs::PairFits::two_is_free))]
+pub fn destination(alloc: Global) -> Result<Volume<MemDisk>, Fail>
     ensures { IfOk result (λ v. v.up ≡ true) }
 {
     let disk = MemDisk::new(alloc, SIX_BLOCKS)?;

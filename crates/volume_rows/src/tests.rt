@@ -5,7 +5,6 @@ use sm_disk::Disk;
 use sm_memdisk::{Image, MemDisk};
 use sm_volume::{View, Volume, VolumeFault};
 use std::test::Fail;
-use volume_laws::{Call, perform_all};
 
 // A block of one byte.
 pub fn full(fill: u8) -> Block {
@@ -16,8 +15,18 @@ pub fn is_full(block: &Block, fill: u8) -> bool {
     block.0.iter().all(|byte| *byte == fill)
 }
 
+// The byte of which a block is full.
+pub fn fill_of(block: &Block) -> Option<u8> {
+    let fill = block.0[0];
+    if is_full(block, fill) {
+        Some(fill)
+    } else {
+        None
+    }
+}
+
 // The length of a disk of two blocks.
-const TWO_BLOCKS: u64 = 25_735_168;
+pub const TWO_BLOCKS: u64 = 25_735_168;
 
 // The volume, or why there is none.
 pub fn made(
@@ -96,35 +105,5 @@ fn a_restart_goes_back_to_the_stable_image(rt: HostRuntime) -> Result<(), Fail> 
     volume.read(View::Active, 0, &mut block)?;
     assert!(rt; is_full(&block, 0));
     assert_eq!(rt; volume.root().physical, 2);
-    Ok(())
-}
-
-#[test]
-fn calls_are_made_one_after_another(rt: HostRuntime) -> Result<(), Fail> {
-    let alloc = rt.alloc();
-    let disk = MemDisk::new(alloc, TWO_BLOCKS)?;
-    let mut volume = made(Volume::create(alloc, disk, VolNo(0), Kind::Dp, 1, 2))?;
-    let first = Ident { origin: 0, seq: 2 };
-    let name = SnapName::read(alloc, b"s1")?;
-    let calls = [
-        Call::MakeWritable,
-        Call::Write { at: 0, fill: 7 },
-        Call::Snapshot {
-            ident: first,
-            name,
-            label: None,
-            time: 0,
-        },
-        Call::Write { at: 0, fill: 8 },
-        Call::ConsistencyPoint,
-        Call::Remove { ident: first },
-        Call::Write { at: 0, fill: 9 },
-    ];
-    perform_all(alloc, &mut volume, &calls)?;
-    let mut block = full(0);
-    volume.read(View::Active, 0, &mut block)?;
-    assert!(rt; is_full(&block, 9));
-    assert_eq!(rt; volume.root().snapshots.as_slice().len(), 0);
-    assert_eq!(rt; volume.used(), 2);
     Ok(())
 }

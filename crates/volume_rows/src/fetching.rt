@@ -1,0 +1,60 @@
+// Blocks that are read by their number.
+ghost use Rattle.std.specs.Prelude.{◌≡◌, true, OnOk};
+ghost use Rattle.std.specs.List.{list_any};
+ghost use Rattle.sm_defs.specs.Image.{stands};
+ghost use Rattle.sm_defs.specs.Volume.{tags_of};
+
+use crate::table::destination;
+use crate::tests::{TWO_BLOCKS, fill_of, full, made};
+use sm_base::{Kind, VolNo};
+use sm_memdisk::MemDisk;
+use sm_volume::Volume;
+use std::test::Fail;
+
+fn has_number(numbers: &[u32], number: u32) -> bool
+    ensures { result ≡ stands number numbers.now }
+{
+    numbers.iter().any(|one| *one == number)
+}
+
+// Whether the stable image uses the number.
+fn is_stable(volume: &Volume<MemDisk>, number: u32) -> bool
+    ensures { result ≡ true → stands number (tags_of volume.now.volume) ≡ true }
+{
+    has_number(volume.root().stable.as_slice(), number)
+}
+
+// What the block of a number of the stable image holds.
+fn fetched(volume: &mut Volume<MemDisk>, number: u32) -> Result<Option<u8>, Fail>
+    requires { volume.old.up ≡ true }
+    ensures { OnOk result (volume.new.up ≡ true) }
+{
+    if number == 0 {
+        return Err("a hole has no number")?;
+    }
+    if !is_stable(volume, number) {
+        return Err("the stable image does not use the number")?;
+    }
+    let mut block = full(0);
+    volume.fetch(number, &mut block)?;
+    Ok(fill_of(&block))
+}
+
+#[test]
+fn a_block_is_fetched_by_its_number(rt: HostRuntime) -> Result<(), Fail> {
+    let alloc = rt.alloc();
+    let disk = MemDisk::new(alloc, TWO_BLOCKS)?;
+    let mut volume = made(Volume::create(alloc, disk, VolNo(0), Kind::Rw, 1, 2))?;
+    volume.write(0, &full(7))?;
+    volume.cp(alloc)?;
+    assert_eq!(rt; fetched(&mut volume, 1)?, Some(7));
+    Ok(())
+}
+
+#[test]
+fn a_block_that_landed_is_fetched(rt: HostRuntime) -> Result<(), Fail> {
+    let mut volume = destination(rt.alloc())?;
+    assert_eq!(rt; fetched(&mut volume, 1)?, Some(5));
+    assert_eq!(rt; fetched(&mut volume, 2)?, Some(6));
+    Ok(())
+}
