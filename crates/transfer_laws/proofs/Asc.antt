@@ -1,17 +1,17 @@
 -- Lists that ascend.
-use Rattle.std.proofs.Common.{◌≡◌, ◌≢◌, ◌⊎◌, ◌↔◌, ◌<◌, ◌≤◌, ◌+◌, ℕ, zero, suc, ◌==◌, ◌&&◌, nat_lt, not, Bool, true, false, cond, List, [], ◌∷◌, map, length, Some, None, refl, ap, ap₂, sym, subst, ◌∙◌, inl, inr, eqb-true, eq-eqb, arith}
-use Rattle.std.proofs.lemmas.Bool.{and_parts, and_from, not-true, not_from_false, ltb-true, ltb-false, eqb-false, cases_Bool, both_ways, ne_eqb, cases_eq, cases_order, false_from_ne_true}
+use Rattle.std.proofs.Common.{◌≡◌, ◌≢◌, ◌⊎◌, ◌↔◌, ◌<◌, ◌≤◌, ◌+◌, ℕ, zero, suc, ◌==◌, nat_lt, not, Bool, true, false, cond, List, [], ◌∷◌, length, Some, refl, ap₂, sym, subst, ◌∙◌, inl, inr, eqb-true, arith}
+use Rattle.std.proofs.lemmas.Bool.{and_parts, and_from, not-true, not_from_false, ltb-true, ltb-false, eqb-false, both_ways, ne_eqb, cases_eq, false_from_ne_true}
 use Rattle.std.proofs.lemmas.Option.{same_Some}
 use Rattle.std.specs.Prelude.{slice_get}
-use Rattle.std.specs.List.{filter, list_any, AllByRecursion}
+use Rattle.std.specs.List.{filter, AllByRecursion}
 use Rattle.sm_defs.specs.Words.{Among}
-use Rattle.sm_defs.specs.Image.{Block, Image, tags, tag_of, stands}
-use Rattle.sm_defs.specs.Volume.{Volume, Snapshot, image_of, numbers, free_tags, tags_of}
+use Rattle.sm_defs.specs.Image.{Block, Image, tags, stands}
+use Rattle.sm_defs.specs.Volume.{Snapshot, image_of}
 use Rattle.sm_defs.specs.Missing.{Bases, insert_once, ascending, tags_in, is_missing_tag, missing_tags, mirror_cost, first_tag, rest, is_missing_at, missing_from, missing_places, vault_cost}
 use Rattle.transfer_laws.specs.Costs.{Ascends, HaveTag, tag_at, IsMissingTag, IsMissingPlace}
-use Rattle.transfer_laws.proofs.Lists.{stands_among, among_stands, among_map, from_map, among_flat_map, from_flat_map, filter_among, among_filter}
+use Rattle.transfer_laws.proofs.Lists.{stands_among, among_stands, among_flat_map, from_flat_map, filter_among, among_filter}
 
-each_among : {X : Type 0} (P : X → Type 0) (xs : List X) → ((x : X) → Among xs x → P x) → AllByRecursion P xs
+pub each_among : {X : Type 0} (P : X → Type 0) (xs : List X) → ((x : X) → Among xs x → P x) → AllByRecursion P xs
 each_among P [] h = tt
 each_among P (x ∷ xs) h = (h x (inl refl), each_among P xs (λ y m. h y (inr m)))
 
@@ -57,6 +57,7 @@ above_go t u us e f h = each_among (λ v. u < v) (insert_once t us) (λ x m. go 
   where
     more : u < t
     more = let k = eqb-false t u e in let l : u ≤ t = ltb-false t u f in omega arith
+
     go : (x : ℕ) → (x ≡ t) ⊎ Among us x → u < x
     go x (inl k) = rw k more
     go x (inr m) = among_each (λ v. u < v) us x h m
@@ -109,8 +110,8 @@ one_ascending (t ∷ ts) [] h k f g = absurd (f t (inl refl))
 one_ascending (t ∷ ts) (u ∷ us) h k f g =
     let e : t ≡ u = first_is t u ts us h k (f t (inl refl)) (g u (inl refl)) in
     ap₂ (λ x xs. x ∷ xs) e
-      (one_ascending ts us h.1 k.1 (λ x m. tail_among t x ts us h.0 m (subst (λ y. Among (y ∷ us) x) (sym e) (f x (inr m))))
-        (λ x m. tail_among u x us ts k.0 m (subst (λ y. Among (y ∷ ts) x) e (g x (inr m)))))
+    (one_ascending ts us h.1 k.1 (λ x m. tail_among t x ts us h.0 m (subst (λ y. Among (y ∷ us) x) (sym e) (f x (inr m))))
+    (λ x m. tail_among u x us ts k.0 m (subst (λ y. Among (y ∷ ts) x) e (g x (inr m)))))
 
 -- ---- a mirror's missing tags
 
@@ -129,9 +130,9 @@ is_missing leg destination t m =
 missing_is : (leg : Image) (destination : List Snapshot) (t : ℕ) → IsMissingTag leg destination t → Among (missing_tags leg destination) t
 missing_is leg destination t (m, n, h) =
     among_ascending (filter (is_missing_tag destination) (tags leg)) t
-      (filter_among (is_missing_tag destination) (tags leg) t m
-        (and_from (not (t == 0)) (not (stands t (tags_in destination))) (not_from_false (t == 0) (ne_eqb t 0 n))
-          (not_from_false (stands t (tags_in destination)) (false_from_ne_true (stands t (tags_in destination)) (λ e. h (have_from destination t e))))))
+    (filter_among (is_missing_tag destination) (tags leg) t m
+    (and_from (not (t == 0)) (not (stands t (tags_in destination))) (not_from_false (t == 0) (ne_eqb t 0 n))
+    (not_from_false (stands t (tags_in destination)) (false_from_ne_true (stands t (tags_in destination)) (λ e. h (have_from destination t e))))))
 
 pub missing_tags_are : (leg : Image) (destination : List Snapshot) → Ascends (missing_tags leg destination) × ((t : ℕ) → Among (missing_tags leg destination) t ↔ IsMissingTag leg destination t)
 missing_tags_are leg destination = (ascending_ascends (filter (is_missing_tag destination) (tags leg)), λ t. (is_missing leg destination t, missing_is leg destination t))
@@ -163,6 +164,7 @@ mirror_nothing leg destination = (there, back)
         go : (stands t (tags_in destination) ≡ true) ⊎ (stands t (tags_in destination) ≡ false) → HaveTag destination t
         go (inl k) = have_from destination t k
         go (inr k) = absurd (none_empty (missing_tags leg destination) e t (missing_is leg destination t (m, n, λ h. both_ways (stands t (tags_in destination)) k (have_to destination t h))))
+
     back : ((t : ℕ) → Among (tags leg) t → t ≢ 0 → HaveTag destination t) → mirror_cost leg destination ≡ 0
     back h = empty_none (missing_tags leg destination) (λ t m. let (a, n, k) = is_missing leg destination t m in k (h t a n))
 
@@ -177,11 +179,11 @@ record PlaceFrom (at : ℕ) (leg base : Image) (p : ℕ) : Type 0 where
   full : block.tag ≢ 0
   new : block.tag ≢ tag_at base by
 
-next_tag : (base : Image) (p : ℕ) → tag_at (rest base) p ≡ tag_at base (suc p)
+pub next_tag : (base : Image) (p : ℕ) → tag_at (rest base) p ≡ tag_at base (suc p)
 next_tag [] p = refl
 next_tag (c ∷ cs) p = refl
 
-first_is_at : (base : Image) → first_tag base ≡ tag_at base 0
+pub first_is_at : (base : Image) → first_tag base ≡ tag_at base 0
 first_is_at [] = refl
 first_is_at (c ∷ cs) = refl
 
@@ -213,11 +215,12 @@ to_missing at zero (c ∷ bs) base b e n k = rw first (inl (omega arith))
   where
     same : c ≡ b
     same = same_Some c b e
+
     first : is_missing_at c.tag (first_tag base) ≡ true
     first = subst (λ d. is_missing_at d.tag (first_tag base) ≡ true) (sym same) (test_missing b.tag (first_tag base) n (λ q. k (q ∙ first_is_at base)))
 to_missing at (suc by) (c ∷ bs) base b e n k =
     to_missing_go at (at + suc by) (missing_from (suc at) bs (rest base)) (is_missing_at c.tag (first_tag base))
-      (subst (Among (missing_from (suc at) bs (rest base))) (omega arith) (to_missing (suc at) by bs (rest base) b e n (λ q. k (q ∙ next_tag base by))))
+    (subst (Among (missing_from (suc at) bs (rest base))) (omega arith) (to_missing (suc at) by bs (rest base) b e n (λ q. k (q ∙ next_tag base by))))
 
 missing_from_ascends : (at : ℕ) (leg base : Image) → Ascends (missing_from at leg base)
 missing_from_ascends at [] base = tt
@@ -234,17 +237,21 @@ missing_places_are leg bases = (missing_from_ascends 0 leg bases.at_source, λ p
     there p m = let f = from_missing 0 leg bases.at_source p m in
         let e : p ≡ f.by = let k = f.there in omega arith in
         (f.block, subst (λ q. slice_get leg q ≡ Some f.block) (sym e) f.is, f.full, subst (λ q. f.block.tag ≢ tag_at bases.at_source q) (sym e) f.new)
+
     back : (p : ℕ) → IsMissingPlace leg bases p → Among (missing_places leg bases) p
     back p (b, e, n, k) = subst (Among (missing_places leg bases)) (omega arith) (to_missing 0 p leg bases.at_source b e n k)
 
+pub missing_cases : (t u : ℕ) → is_missing_at t u ≡ false → (t ≡ 0) ⊎ (t ≡ u)
+missing_cases t u e = go (cases_eq t 0) (cases_eq t u)
+  where
+    go : (t ≡ 0) ⊎ (t ≡ 0 → ⊥) → (t ≡ u) ⊎ (t ≡ u → ⊥) → (t ≡ 0) ⊎ (t ≡ u)
+    go (inl k) q = inl k
+    go (inr n) (inl k) = inr k
+    go (inr n) (inr k) = absurd (both_ways (is_missing_at t u) e (test_missing t u n k))
+
 place_cases : (t u : ℕ) (b : Bool) → is_missing_at t u ≡ b → ((t ≡ 0) ⊎ (t ≡ u)) ⊎ ((t ≢ 0) × (t ≢ u))
 place_cases t u true e = inr (missing_test t u e)
-place_cases t u false e = go (cases_eq t 0) (cases_eq t u)
-  where
-    go : (t ≡ 0) ⊎ (t ≡ 0 → ⊥) → (t ≡ u) ⊎ (t ≡ u → ⊥) → ((t ≡ 0) ⊎ (t ≡ u)) ⊎ ((t ≢ 0) × (t ≢ u))
-    go (inl k) q = inl (inl k)
-    go (inr n) (inl k) = inl (inr k)
-    go (inr n) (inr k) = inr (n, k)
+place_cases t u false e = inl (missing_cases t u e)
 
 pub vault_nothing : (leg : Image) (bases : Bases) → (vault_cost leg bases ≡ 0) ↔ ((p : ℕ) (b : Block) → slice_get leg p ≡ Some b → (b.tag ≡ 0) ⊎ (b.tag ≡ tag_at bases.at_source p))
 vault_nothing leg bases = (there, back)
@@ -255,6 +262,7 @@ vault_nothing leg bases = (there, back)
         go : ((b.tag ≡ 0) ⊎ (b.tag ≡ tag_at bases.at_source p)) ⊎ ((b.tag ≢ 0) × (b.tag ≢ tag_at bases.at_source p)) → (b.tag ≡ 0) ⊎ (b.tag ≡ tag_at bases.at_source p)
         go (inl h) = h
         go (inr (n, q)) = absurd (none_empty (missing_places leg bases) e p (((missing_places_are leg bases).1 p).1 (b, k, n, q)))
+
     back : ((p : ℕ) (b : Block) → slice_get leg p ≡ Some b → (b.tag ≡ 0) ⊎ (b.tag ≡ tag_at bases.at_source p)) → vault_cost leg bases ≡ 0
     back h = empty_none (missing_places leg bases) (λ p m. let (b, e, n, q) = ((missing_places_are leg bases).1 p).0 m in go p b n q (h p b e))
       where

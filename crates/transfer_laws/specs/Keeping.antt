@@ -35,6 +35,16 @@ RetentionBeginsAtTheNewest =
     (rules : List Rule) (needs : Ident → Bool) (older newer : List Snapshot) →
     (front : List Snapshot) × Thinned front older × (retained rules needs (older ++ newer) ≡ front ++ retained rules needs newer)
 
+-- the label has a rule that preserves or keeps at least one
+abbrev pub IsWanted : List Rule → Snapshot → Type 0
+IsWanted rules s = (rule : Rule) × (rule_for rules s.label ≡ Some rule) × ((rule.preserve ≡ true) ⊎ (0 < rule.keep))
+
+-- what comes last stays, whatever stands before it
+abbrev pub RetentionKeepsTheNewest : Type 0
+RetentionKeepsTheNewest =
+    (rules : List Rule) (needs : Ident → Bool) (older : List Snapshot) (s : Snapshot) → IsWanted rules s →
+    (front : List Snapshot) × Thinned front older × (retained rules needs (older ++ s ∷ []) ≡ front ++ s ∷ [])
+
 abbrev pub IsReached : List (Option (List ℕ)) → List (Option (List ℕ)) → Rule → Type 0
 IsReached there coming rule = (rule.preserve ≡ true) × (rule.keep < labelled (Some rule.label) there + labelled (Some rule.label) coming)
 

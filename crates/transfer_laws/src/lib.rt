@@ -6,7 +6,7 @@
 
 ghost use Rattle.transfer_laws.specs.Costs.{MissingTagsAreThese, MissingTagsAreDetermined, MissingPlacesAreThese, MirrorCostsNothing, VaultCostsNothing};
 ghost use Rattle.transfer_laws.specs.Landing.{LandingHasTheLegsBytes, MissingBlocksTakeNumbersInOrder, FreeNumbersAscend, LandingOverwritesNothing};
-ghost use Rattle.transfer_laws.specs.Keeping.{RetentionKeepsTheNeeded, RetentionThins, RetentionKeepsByReason, RetentionBeginsAtTheNewest, KeepReachedNamesTheFirst, BasesAreNeeded, LegsAreNeeded};
+ghost use Rattle.transfer_laws.specs.Keeping.{RetentionKeepsTheNeeded, RetentionThins, RetentionKeepsByReason, RetentionBeginsAtTheNewest, RetentionKeepsTheNewest, KeepReachedNamesTheFirst, BasesAreNeeded, LegsAreNeeded};
 ghost use Rattle.transfer_laws.specs.Dropping.{PruningDropsExactly, PruningThins, CommonIsTheNewest, NothingIsCommon};
 ghost use Rattle.transfer_laws.specs.Sending.{LegsAreNew, ReservedForWritableSources, VaultsSendByRule, MirrorsOfAllSendAll};
 
@@ -78,6 +78,11 @@ pub fn retention_keeps_by_reason()
 /// What is kept of the newer part of a list rests on no older snapshot.
 pub fn retention_begins_at_the_newest()
     ensures { RetentionBeginsAtTheNewest }
+{}
+
+/// The newest snapshot stays where its label has a rule that preserves or keeps at least one.
+pub fn retention_keeps_the_newest()
+    ensures { RetentionKeepsTheNewest }
 {}
 
 /// The first rule that preserves and has no room is named, and none exactly where each has room.
