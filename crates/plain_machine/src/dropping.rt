@@ -7,7 +7,7 @@ ghost use Rattle.sm_defs.specs.Relationship.{sends_all};
 ghost use Rattle.sm_defs.specs.Pruning.{is_pruned, pruned};
 ghost use Rattle.sm_defs.specs.Common.{common};
 
-use crate::lists::{has_copy, has_rule_for, is_among};
+use crate::lists::{has_copy, has_rule_for, is_among, with_first};
 use crate::values::{PlainPolicy, PlainSnapshot};
 use sm_base::{Ident, NoMemory};
 use std::alloc::Global;
@@ -45,11 +45,12 @@ pub fn pruned(
     match destination {
         [] => Ok(Vec::new(alloc)),
         [snapshot, newer @ ..] => {
-            let mut dropped = pruned(alloc, policy, needed, source, newer)?;
+            let dropped = pruned(alloc, policy, needed, source, newer)?;
             if is_pruned(policy, needed, source, snapshot) {
-                dropped.insert(0, snapshot.copy(alloc)?)?;
+                with_first(snapshot.copy(alloc)?, dropped)
+            } else {
+                Ok(dropped)
             }
-            Ok(dropped)
         }
     }
 }

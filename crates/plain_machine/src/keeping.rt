@@ -5,9 +5,9 @@ ghost use Rattle.std.specs.List.{find};
 ghost use Rattle.std.specs.Str.{bytes_eq};
 ghost use Rattle.sm_defs.specs.Words.{has_ident};
 ghost use Rattle.sm_defs.specs.Relationship.{rule_for};
-ghost use Rattle.sm_defs.specs.Retention.{retained, labelled, labels, keeps_by_rule, keep_reached, is_reached};
+ghost use Rattle.sm_defs.specs.Retention.{retained, keeps, labelled, labels, keeps_by_rule, keep_reached, is_reached};
 
-use crate::lists::{is_among, same_text};
+use crate::lists::{is_among, same_text, with_first};
 use crate::values::{PlainRule, PlainSnapshot};
 use sm_base::{Ident, Label, NoMemory};
 use std::alloc::Global;
@@ -82,6 +82,17 @@ fn has_room(rules: &[PlainRule], label: &Option<Label>, kept: &[PlainSnapshot]) 
     }
 }
 
+fn stays(
+    rules: &[PlainRule],
+    needed: &[Ident],
+    snapshot: &PlainSnapshot,
+    kept: &[PlainSnapshot],
+) -> bool
+    ensures { result ≡ keeps rules.now (has_ident needed.now) snapshot.now kept.now }
+{
+    is_among(needed, snapshot.ident) || has_room(rules, &snapshot.label, kept)
+}
+
 /// What a vault keeps of a list, oldest first: what is needed, what its rule preserves, and as many
 /// newest ones of a label as its rule says, those counted that are kept for another reason.
 pub fn retained(
@@ -95,11 +106,12 @@ pub fn retained(
     match snapshots {
         [] => Ok(Vec::new(alloc)),
         [snapshot, newer @ ..] => {
-            let mut kept = retained(alloc, rules, needed, newer)?;
-            if is_among(needed, snapshot.ident) || has_room(rules, &snapshot.label, &kept) {
-                kept.insert(0, snapshot.copy(alloc)?)?;
+            let kept = retained(alloc, rules, needed, newer)?;
+            if stays(rules, needed, snapshot, &kept) {
+                with_first(snapshot.copy(alloc)?, kept)
+            } else {
+                Ok(kept)
             }
-            Ok(kept)
         }
     }
 }

@@ -1,5 +1,5 @@
 // What the other functions ask of lists.
-ghost use Rattle.std.specs.Prelude.{◌≡◌, Some};
+ghost use Rattle.std.specs.Prelude.{◌≡◌, ◌∷◌, Some, IfOk};
 ghost use Rattle.std.specs.Str.{bytes_eq};
 ghost use Rattle.std.specs.Option.{is_some};
 ghost use Rattle.sm_defs.specs.Words.{same_ident, has_ident};
@@ -8,7 +8,7 @@ ghost use Rattle.sm_defs.specs.Relationship.{rule_for};
 ghost use Rattle.sm_defs.specs.Missing.{rest, first_tag};
 
 use crate::values::{PlainBlock, PlainRule, PlainSnapshot};
-use sm_base::Ident;
+use sm_base::{Ident, NoMemory};
 
 pub(crate) fn same_text(one: &[u8], other: &[u8]) -> bool
     ensures { result ≡ bytes_eq one.now other.now }
@@ -71,4 +71,15 @@ pub(crate) fn behind_first(image: &[PlainBlock]) -> &[PlainBlock]
         [] => image,
         [_, others @ ..] => others,
     }
+}
+
+// The list with one more at its front.
+pub(crate) fn with_first(
+    first: PlainSnapshot,
+    mut others: Vec<PlainSnapshot>,
+) -> Result<Vec<PlainSnapshot>, NoMemory>
+    ensures { IfOk result (λ all. all.items ≡ first ∷ others.items) }
+{
+    others.insert(0, first)?;
+    Ok(others)
 }

@@ -1,8 +1,8 @@
 // What a leg costs.
-ghost use Rattle.std.specs.Prelude.{◌≡◌, ◌<◌, ◌+◌, ◌^◌, length, IfOk, OnOk};
+ghost use Rattle.std.specs.Prelude.{◌≡◌, ◌<◌, ◌≤◌, ◌+◌, ◌^◌, length, IfOk, OnOk};
 ghost use Rattle.sm_defs.specs.Image.{stands, tags};
-ghost use Rattle.sm_defs.specs.Missing.{tags_in, missing_tags, mirror_cost, missing_places, missing_from, vault_cost, insert_once, is_missing_at};
-ghost use Rattle.plain_machine.specs.Places.{place_of};
+ghost use Rattle.sm_defs.specs.Missing.{tags_in, is_missing_tag, missing_tags, mirror_cost, missing_places, missing_from, vault_cost, insert_once, is_missing_at};
+ghost use Rattle.plain_machine.specs.Places.{place_of, is_at};
 
 use crate::lists::{behind_first, first_tag};
 use crate::values::{PlainBases, PlainBlock, PlainSnapshot};
@@ -27,9 +27,16 @@ fn snapshots_have(snapshots: &[PlainSnapshot], tag: u32) -> bool
     }
 }
 
+fn is_missing_tag(destination: &[PlainSnapshot], tag: u32) -> bool
+    ensures { result ≡ is_missing_tag destination.now tag }
+{
+    tag != 0 && !snapshots_have(destination, tag)
+}
+
 // How many numbers at the front of a list are less.
 fn place(tags: &[u32], tag: u32) -> usize
-    ensures { result ≡ place_of tag tags.now }
+    ensures place { result ≡ place_of tag tags.now }
+    ensures within { result ≤ length tags.now }
 {
     match tags {
         [] => 0,
@@ -43,14 +50,19 @@ fn place(tags: &[u32], tag: u32) -> usize
     }
 }
 
+fn is_at(tags: &[u32], at: usize, tag: u32) -> bool
+    ensures { result ≡ is_at tag tags.now at }
+{
+    at < tags.len() && tags[at] == tag
+}
+
 fn put_once(tags: &mut Vec<u32>, tag: u32) -> Result<(), NoMemory>
     ensures { OnOk result (tags.new.items ≡ insert_once tag tags.old.items) }
 {
     let at = place(tags, tag);
-    if at < tags.len() && tags[at] == tag {
-        return Ok(());
+    if !is_at(tags, at, tag) {
+        tags.insert(at, tag)?;
     }
-    tags.insert(at, tag)?;
     Ok(())
 }
 
@@ -66,7 +78,7 @@ pub fn missing_tags(
         [] => Ok(Vec::new(alloc)),
         [block, others @ ..] => {
             let mut tags = missing_tags(alloc, others, destination)?;
-            if block.tag != 0 && !snapshots_have(destination, block.tag) {
+            if is_missing_tag(destination, block.tag) {
                 put_once(&mut tags, block.tag)?;
             }
             Ok(tags)

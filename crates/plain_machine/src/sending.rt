@@ -9,7 +9,7 @@ ghost use Rattle.sm_defs.specs.Volume.{has, idents};
 ghost use Rattle.sm_defs.specs.Legs.{after_base, candidates, only_newest, has_rule, made_ident, mirror_legs, vault_legs, legs};
 
 use crate::dropping::sends_all;
-use crate::lists::{has_copy, has_rule_for, is_same};
+use crate::lists::{has_copy, has_rule_for, is_same, with_first};
 use crate::values::{PlainLegs, PlainPolicy, PlainRule, PlainSnapshot, PlainSource};
 use sm_base::{Ident, Kind, Label, NoMemory, PolicyKind};
 use std::alloc::Global;
@@ -38,6 +38,12 @@ fn behind_base(snapshots: &[PlainSnapshot], base: Option<Ident>) -> &[PlainSnaps
     }
 }
 
+fn is_new(destination: &[PlainSnapshot], ident: Ident) -> bool
+    ensures { result ≡ not (has destination.now ident) }
+{
+    !has_copy(destination, ident)
+}
+
 fn without_copies(
     alloc: Global,
     snapshots: &[PlainSnapshot],
@@ -48,11 +54,12 @@ fn without_copies(
     match snapshots {
         [] => Ok(Vec::new(alloc)),
         [snapshot, newer @ ..] => {
-            let mut new = without_copies(alloc, newer, destination)?;
-            if !has_copy(destination, snapshot.ident) {
-                new.insert(0, snapshot.copy(alloc)?)?;
+            let new = without_copies(alloc, newer, destination)?;
+            if is_new(destination, snapshot.ident) {
+                with_first(snapshot.copy(alloc)?, new)
+            } else {
+                Ok(new)
             }
-            Ok(new)
         }
     }
 }
@@ -127,7 +134,7 @@ fn of_mirror(
     made: Ident,
     sent: &[PlainSnapshot],
 ) -> Result<PlainLegs, NoMemory>
-    ensures { IfOk result (λ legs. legs ≡ mirror_legs all kind made sent.now) }
+    ensures { IfOk result (λ sends. sends ≡ mirror_legs all kind made sent.now) }
 {
     match kind {
         Kind::Rw => {
@@ -162,7 +169,7 @@ pub fn legs(
     destination: &[PlainSnapshot],
 ) -> Result<PlainLegs, NoMemory>
     requires { transfer < 2 ^ 62 }
-    ensures { IfOk result (λ legs. legs ≡ legs transfer policy.now base source.now destination.now) }
+    ensures { IfOk result (λ sends. sends ≡ legs transfer policy.now base source.now destination.now) }
 {
     let sent = candidates(alloc, base, &source.snapshots, destination)?;
     match policy.kind {
