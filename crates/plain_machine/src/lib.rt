@@ -11,6 +11,8 @@ mod landing;
 mod lists;
 mod missing;
 mod sending;
+#[cfg(test)]
+mod tests;
 mod values;
 
 pub use dropping::{common, is_pruned, pruned};
