@@ -5,11 +5,11 @@ use Rattle.std.proofs.lemmas.Option.{same_Some}
 use Rattle.std.specs.Prelude.{slice_get}
 use Rattle.std.specs.List.{filter}
 use Rattle.sm_defs.specs.Words.{Among}
-use Rattle.sm_defs.specs.Image.{Block, Image, SameContents, bytes_of, hole, stands}
+use Rattle.sm_defs.specs.Image.{Block, Image, SameContents, bytes_of, hole, stands, tags, tag_of}
 use Rattle.sm_defs.specs.Volume.{Volume, numbers, free_tags, tags_of}
 use Rattle.sm_defs.specs.Missing.{Bases, first_tag, first_block, first_number, rest, moved, is_missing_at, missing_from, missing_places, vault_cost, landed_from, vault_landing}
 use Rattle.transfer_laws.specs.Costs.{Ascends, tag_at}
-use Rattle.transfer_laws.specs.Landing.{LandsWhole, LandsFree}
+use Rattle.transfer_laws.specs.Landing.{LandsWhole, LandsFree, missing_numbers_from, landed_numbers}
 use Rattle.transfer_laws.proofs.Lists.{filter_among, among_filter}
 use Rattle.transfer_laws.proofs.Asc.{each_among, among_each, next_tag, first_is_at, missing_cases}
 
@@ -198,3 +198,50 @@ pub overwrites_nothing : (leg : Image) (bases : Bases) (v : Volume) → vault_co
     (p : ℕ) (b : Block) → slice_get (vault_landing leg bases (free_tags v)) p ≡ Some b → LandsFree v bases p b
 overwrites_nothing leg bases v l p b e =
     lands_free (λ t. stands t (tags_of v) ≡ false) 0 leg bases.at_source bases.at_destination (free_tags v) l (λ t m. (free_from v t m).2) p b e
+
+-- ---- maps alone
+
+tag_first : (image : Image) → first_tag image ≡ first_number (tags image)
+tag_first [] = refl
+tag_first (b ∷ bs) = refl
+
+tags_rest : (image : Image) → tags (rest image) ≡ rest (tags image)
+tags_rest [] = refl
+tags_rest (b ∷ bs) = refl
+
+block_tag : (image : Image) → (first_block image).tag ≡ first_number (tags image)
+unfolding hole
+block_tag [] = refl
+block_tag (b ∷ bs) = refl
+
+kept_tag : (z : Bool) (destination : Image) → tag_of (cond z hole (first_block destination)) ≡ cond z 0 (first_number (tags destination))
+kept_tag true destination = hole_tag
+kept_tag false destination = block_tag destination
+
+missing_map : (at : ℕ) (leg base : Image) → missing_from at leg base ≡ missing_numbers_from at (tags leg) (tags base)
+missing_map at [] base = refl
+missing_map at (b ∷ bs) base =
+    let ih : missing_from (suc at) bs (rest base) ≡ missing_numbers_from (suc at) (tags bs) (rest (tags base)) = missing_map (suc at) bs (rest base) ∙ ap (missing_numbers_from (suc at) (tags bs)) (tags_rest base) in
+    rw (tag_first base, ih) refl
+
+landed_go : (m : Bool) (b : Block) (bs source destination : Image) (free : List ℕ) →
+    ((f : List ℕ) → tags (landed_from bs (rest source) (rest destination) f) ≡ landed_numbers (tags bs) (rest (tags source)) (rest (tags destination)) f) →
+    tags (cond m (moved b (first_number free) ∷ landed_from bs (rest source) (rest destination) (rest free)) (cond (b.tag == 0) hole (first_block destination) ∷ landed_from bs (rest source) (rest destination) free)) ≡
+    cond m (first_number free ∷ landed_numbers (tags bs) (rest (tags source)) (rest (tags destination)) (rest free))
+    (cond (b.tag == 0) 0 (first_number (tags destination)) ∷ landed_numbers (tags bs) (rest (tags source)) (rest (tags destination)) free)
+landed_go true b bs source destination free ih = ap (λ xs. first_number free ∷ xs) (ih (rest free))
+landed_go false b bs source destination free ih = ap₂ (λ x xs. x ∷ xs) (kept_tag (b.tag == 0) destination) (ih free)
+
+landed_map : (leg source destination : Image) (free : List ℕ) → tags (landed_from leg source destination free) ≡ landed_numbers (tags leg) (tags source) (tags destination) free
+landed_map [] source destination free = refl
+landed_map (b ∷ bs) source destination free =
+    landed_go (is_missing_at b.tag (first_tag source)) b bs source destination free (λ f. landed_map bs (rest source) (rest destination) f ∙ ap₂ (λ x y. landed_numbers (tags bs) x y f) (tags_rest source) (tags_rest destination)) ∙
+    ap
+    (λ u. cond (is_missing_at b.tag u) (first_number free ∷ landed_numbers (tags bs) (rest (tags source)) (rest (tags destination)) (rest free))
+    (cond (b.tag == 0) 0 (first_number (tags destination)) ∷ landed_numbers (tags bs) (rest (tags source)) (rest (tags destination)) free))
+    (tag_first source)
+
+pub maps_alone : (leg : Image) (bases : Bases) (free : List ℕ) →
+    (missing_places leg bases ≡ missing_numbers_from 0 (tags leg) (tags bases.at_source)) ×
+    (tags (vault_landing leg bases free) ≡ landed_numbers (tags leg) (tags bases.at_source) (tags bases.at_destination) free)
+maps_alone leg bases free = (missing_map 0 leg bases.at_source, landed_map leg bases.at_source bases.at_destination free)

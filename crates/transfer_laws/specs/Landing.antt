@@ -1,9 +1,9 @@
 -- The laws of what lands at a vault.
-use Rattle.std.specs.Prelude.{◌≡◌, ◌≢◌, ◌↔◌, ◌⊎◌, ◌≤◌, ℕ, false, List, length, Some, slice_get}
+use Rattle.std.specs.Prelude.{◌≡◌, ◌≢◌, ◌↔◌, ◌⊎◌, ◌≤◌, ◌==◌, ℕ, suc, cond, false, List, [], ◌∷◌, length, Some, slice_get}
 use Rattle.sm_defs.specs.Words.{Among}
-use Rattle.sm_defs.specs.Image.{Block, Image, SameContents, hole, stands}
+use Rattle.sm_defs.specs.Image.{Block, Image, SameContents, hole, stands, tags}
 use Rattle.sm_defs.specs.Volume.{Volume, tags_of, free_tags}
-use Rattle.sm_defs.specs.Missing.{Bases, missing_places, vault_cost, vault_landing, moved}
+use Rattle.sm_defs.specs.Missing.{Bases, missing_places, vault_cost, vault_landing, moved, is_missing_at, first_number, rest}
 use Rattle.transfer_laws.specs.Costs.{Ascends, tag_at}
 
 -- holes read as zeros; a block that the leg and the source's base share has the bytes of the destination's base there
@@ -33,3 +33,22 @@ abbrev pub LandingOverwritesNothing : Type 0
 LandingOverwritesNothing =
     (leg : Image) (bases : Bases) (v : Volume) → vault_cost leg bases ≤ length (free_tags v) →
     (p : ℕ) (b : Block) → slice_get (vault_landing leg bases (free_tags v)) p ≡ Some b → LandsFree v bases p b
+
+-- the same of maps, which have the numbers alone
+abbrev pub missing_numbers_from : ℕ → List ℕ → List ℕ → List ℕ
+missing_numbers_from at [] base = []
+missing_numbers_from at (t ∷ ts) base =
+    cond (is_missing_at t (first_number base)) (at ∷ missing_numbers_from (suc at) ts (rest base)) (missing_numbers_from (suc at) ts (rest base))
+
+abbrev pub landed_numbers : List ℕ → List ℕ → List ℕ → List ℕ → List ℕ
+landed_numbers [] source destination free = []
+landed_numbers (t ∷ ts) source destination free =
+    cond (is_missing_at t (first_number source)) (first_number free ∷ landed_numbers ts (rest source) (rest destination) (rest free))
+    (cond (t == 0) 0 (first_number destination) ∷ landed_numbers ts (rest source) (rest destination) free)
+
+-- which places are missing, and which numbers land, rests on the maps alone
+abbrev pub LandingRestsOnMaps : Type 0
+LandingRestsOnMaps =
+    (leg : Image) (bases : Bases) (free : List ℕ) →
+    (missing_places leg bases ≡ missing_numbers_from 0 (tags leg) (tags bases.at_source)) ×
+    (tags (vault_landing leg bases free) ≡ landed_numbers (tags leg) (tags bases.at_source) (tags bases.at_destination) free)

@@ -5,7 +5,7 @@
 #![tactic(auto)]
 
 ghost use Rattle.transfer_laws.specs.Costs.{MissingTagsAreThese, MissingTagsAreDetermined, MissingPlacesAreThese, MirrorCostsNothing, VaultCostsNothing};
-ghost use Rattle.transfer_laws.specs.Landing.{LandingHasTheLegsBytes, MissingBlocksTakeNumbersInOrder, FreeNumbersAscend, LandingOverwritesNothing};
+ghost use Rattle.transfer_laws.specs.Landing.{LandingHasTheLegsBytes, MissingBlocksTakeNumbersInOrder, FreeNumbersAscend, LandingOverwritesNothing, LandingRestsOnMaps};
 ghost use Rattle.transfer_laws.specs.Keeping.{RetentionKeepsTheNeeded, RetentionThins, RetentionKeepsByReason, RetentionBeginsAtTheNewest, RetentionKeepsTheNewest, KeepReachedNamesTheFirst, BasesAreNeeded, LegsAreNeeded};
 ghost use Rattle.transfer_laws.specs.Dropping.{PruningDropsExactly, PruningThins, CommonIsTheNewest, NothingIsCommon};
 ghost use Rattle.transfer_laws.specs.Sending.{LegsAreNew, ReservedForWritableSources, VaultsSendByRule, MirrorsOfAllSendAll};
@@ -57,6 +57,11 @@ pub fn free_numbers_ascend()
 /// a number that no image of the volume used.
 pub fn landing_overwrites_nothing()
     ensures { LandingOverwritesNothing }
+{}
+
+/// Which places are missing and which numbers land rests on the block maps alone.
+pub fn landing_rests_on_maps()
+    ensures { LandingRestsOnMaps }
 {}
 
 /// Retention keeps each needed snapshot.

@@ -1,4 +1,4 @@
-use Rattle.std.proofs.Common.{◌≡◌, arith, sym, ◌∙◌}
+use Rattle.std.proofs.Common.{sym, ◌∙◌}
 use Rattle.plain_machine.proofs.FirstOf.{reached_here, reached_later}
 use Rattle.plain_machine.proofs.keeping.+keep_reached.Goals as goal
 

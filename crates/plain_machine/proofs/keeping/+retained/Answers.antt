@@ -1,6 +1,6 @@
-use Rattle.std.proofs.Common.{◌≡◌, sym, ◌∙◌, ap}
+use Rattle.std.proofs.Common.{sym, ◌∙◌, ap}
 use Rattle.sm_defs.specs.Words.{has_ident}
-use Rattle.sm_defs.specs.Retention.{retained, keeps}
+use Rattle.sm_defs.specs.Retention.{keeps}
 use Rattle.plain_machine.proofs.FirstOf.{kept_too, left_out}
 use Rattle.plain_machine.proofs.keeping.+retained.Goals as goal
 

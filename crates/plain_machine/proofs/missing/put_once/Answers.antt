@@ -1,7 +1,4 @@
-use Rattle.std.proofs.Common.{◌≡◌, sym, ◌∙◌, ap, subst, false, true}
-use Rattle.std.proofs.lemmas.Bool.{not-true}
-use Rattle.std.specs.List.{insert}
-use Rattle.sm_defs.specs.Missing.{insert_once}
+use Rattle.std.proofs.Common.{sym, ◌∙◌, ap}
 use Rattle.plain_machine.specs.Places.{place_of, is_at}
 use Rattle.plain_machine.proofs.FirstOf.{put_from, stands_from}
 use Rattle.plain_machine.proofs.missing.put_once.Goals as goal
