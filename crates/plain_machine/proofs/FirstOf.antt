@@ -1,5 +1,5 @@
 -- Lists with a first element, and a number put in its place.
-use Rattle.std.proofs.Common.{◌≡◌, ◌<◌, ◌-◌, ℕ, suc, ◌==◌, nat_lt, Bool, true, false, cond, List, [], ◌∷◌, ◌++◌, length, take, drop, get_or, Option, Some, refl, sym, subst, ap, ◌∙◌, arith}
+use Rattle.std.proofs.Common.{◌≡◌, ◌<◌, ◌-◌, ℕ, suc, ◌==◌, nat_lt, Bool, true, false, cond, List, [], ◌∷◌, ◌++◌, length, take, drop, get_or, Option, Some, refl, sym, subst, ap, arith}
 use Rattle.std.proofs.lemmas.Bool.{ltb-true, ltb-false, lt-ltb, le-ltb, eqb-true, eq-eqb, ne_eqb, both_ways, and_from, and_parts}
 use Rattle.std.proofs.Math.Seq.{take-length}
 use Rattle.std.specs.List.{insert}
@@ -8,28 +8,18 @@ use Rattle.sm_defs.specs.Volume.{Snapshot}
 use Rattle.sm_defs.specs.Relationship.{Rule}
 use Rattle.sm_defs.specs.Legs.{only_newest}
 use Rattle.sm_defs.specs.Missing.{insert_once}
-use Rattle.sm_defs.specs.Retention.{is_reached, keep_reached, retained, keeps}
+use Rattle.sm_defs.specs.Retention.{is_reached, keep_reached, with_kept, keeps}
 use Rattle.plain_machine.specs.Places.{place_of, is_at}
 
 -- a list's others, as a pattern takes them
 others_are : {X : Type 0} (xs : List X) → take (suc (length xs) - 1) xs ≡ xs
 others_are xs = let e : suc (length xs) - 1 ≡ length xs = omega arith in rw e (take-length xs)
 
-pub kept_too : (rules : List Rule) (needs : Ident → Bool) (ss : List Snapshot) (s copy : Snapshot) (kept : List Snapshot) → 0 < length ss → s ≡ get_or ss 0 s → kept ≡ retained rules needs (take (length ss - 1) (drop 1 ss)) →
-    copy ≡ s → keeps rules needs s kept ≡ true → retained rules needs ss ≡ copy ∷ kept
-kept_too rules needs [] s copy kept l e k f h = absurd (omega arith)
-kept_too rules needs (x ∷ xs) s copy kept l e k f h =
-    let g : retained rules needs xs ≡ kept = sym (k ∙ ap (retained rules needs) (others_are xs)) in
-    let j : keeps rules needs x kept ≡ true = subst (λ y. keeps rules needs y kept ≡ true) e h in
-    rw (g, j) (ap (λ y. y ∷ kept) (sym (f ∙ e)))
+pub kept_too : (rules : List Rule) (needs : Ident → Bool) (s copy : Snapshot) (kept : List Snapshot) → copy ≡ s → keeps rules needs s kept ≡ true → with_kept rules needs s kept ≡ copy ∷ kept
+kept_too rules needs s copy kept e h = rw h (ap (λ x. x ∷ kept) (sym e))
 
-pub left_out : (rules : List Rule) (needs : Ident → Bool) (ss : List Snapshot) (s : Snapshot) (kept : List Snapshot) → 0 < length ss → s ≡ get_or ss 0 s → kept ≡ retained rules needs (take (length ss - 1) (drop 1 ss)) →
-    keeps rules needs s kept ≡ false → kept ≡ retained rules needs ss
-left_out rules needs [] s kept l e k h = absurd (omega arith)
-left_out rules needs (x ∷ xs) s kept l e k h =
-    let g : retained rules needs xs ≡ kept = sym (k ∙ ap (retained rules needs) (others_are xs)) in
-    let j : keeps rules needs x kept ≡ false = subst (λ y. keeps rules needs y kept ≡ false) e h in
-    rw (g, j) refl
+pub left_out : (rules : List Rule) (needs : Ident → Bool) (s : Snapshot) (kept : List Snapshot) → keeps rules needs s kept ≡ false → kept ≡ with_kept rules needs s kept
+left_out rules needs s kept h = rw h refl
 
 pub newest_of_one : (ss : List Snapshot) → length ss < 2 → only_newest ss ≡ ss
 newest_of_one [] l = refl

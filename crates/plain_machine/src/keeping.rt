@@ -5,7 +5,7 @@ ghost use Rattle.std.specs.List.{find};
 ghost use Rattle.std.specs.Str.{bytes_eq};
 ghost use Rattle.sm_defs.specs.Words.{has_ident};
 ghost use Rattle.sm_defs.specs.Relationship.{rule_for};
-ghost use Rattle.sm_defs.specs.Retention.{retained, keeps, labelled, labels, keeps_by_rule, keep_reached, is_reached};
+ghost use Rattle.sm_defs.specs.Retention.{retained, with_kept, keeps, labelled, labels, keeps_by_rule, keep_reached, is_reached};
 
 use crate::lists::{is_among, same_text, with_first};
 use crate::values::{PlainRule, PlainSnapshot};
@@ -93,6 +93,22 @@ fn stays(
     is_among(needed, snapshot.ident) || has_room(rules, &snapshot.label, kept)
 }
 
+fn settled(
+    alloc: Global,
+    rules: &[PlainRule],
+    needed: &[Ident],
+    snapshot: &PlainSnapshot,
+    kept: Vec<PlainSnapshot>,
+) -> Result<Vec<PlainSnapshot>, NoMemory>
+    ensures { IfOk result (λ all. all.items ≡ with_kept rules.now (has_ident needed.now) snapshot.now kept.items) }
+{
+    if stays(rules, needed, snapshot, &kept) {
+        with_first(snapshot.copy(alloc)?, kept)
+    } else {
+        Ok(kept)
+    }
+}
+
 /// What a vault keeps of a list, oldest first: what is needed, what its rule preserves, and as many
 /// newest ones of a label as its rule says, those counted that are kept for another reason.
 pub fn retained(
@@ -107,11 +123,7 @@ pub fn retained(
         [] => Ok(Vec::new(alloc)),
         [snapshot, newer @ ..] => {
             let kept = retained(alloc, rules, needed, newer)?;
-            if stays(rules, needed, snapshot, &kept) {
-                with_first(snapshot.copy(alloc)?, kept)
-            } else {
-                Ok(kept)
-            }
+            settled(alloc, rules, needed, snapshot, kept)
         }
     }
 }
