@@ -1,7 +1,11 @@
 -- What is kept, needed, dropped, and common.
-use Rattle.std.proofs.Common.{◌≡◌, ◌⊎◌, ◌↔◌, ◌<◌, ◌+◌, ◌++◌, ℕ, ◌==◌, ◌||◌, ◌&&◌, nat_lt, not, Bool, true, false, cond, List, [], ◌∷◌, Option, Some, None, refl, ap, sym, subst, ◌∙◌, inl, inr, eq-eqb}
+use Rattle.std.proofs.Common.{arith, ◌≤◌, ◌≡◌, ◌⊎◌, ◌↔◌, ◌<◌, ◌+◌, ◌++◌, ℕ, ◌==◌, ◌||◌, ◌&&◌, nat_lt, not, Bool, true, false, cond, List, [], ◌∷◌, Option, Some, None, refl, ap, sym, subst, ◌∙◌, inl, inr, eq-eqb}
 use Rattle.std.proofs.lemmas.Bool.{and_parts, and_from, or_left, or_right, or_cases, not-true, not_from_false, eqb-false, ne_eqb, ltb-true, lt-ltb, both_ways, false_from_ne_true}
 use Rattle.std.proofs.lemmas.Option.{same_Some}
+use Rattle.std.proofs.lemmas.List.Sums.{sum_by-cons}
+use Rattle.std.proofs.lemmas.Slice.Eq.{bytes_eq-Decides}
+use Rattle.std.specs.Option.{option_eq}
+use Rattle.std.specs.Str.{bytes_eq}
 use Rattle.std.specs.List.{filter, find}
 use Rattle.sm_base.specs.declared.numbers.Ident.{Ident}
 use Rattle.sm_defs.specs.Words.{Among, last_that, or_earlier, is_ident, has_ident}
@@ -11,7 +15,7 @@ use Rattle.sm_defs.specs.World.{Up}
 use Rattle.sm_defs.specs.Edges.{mirror_edges, upstream}
 use Rattle.sm_defs.specs.Needed.{needed, needed_for, needed_at_source, needed_at_destination}
 use Rattle.sm_defs.specs.Thinned.{Thinned, end, kept, left_out}
-use Rattle.sm_defs.specs.Retention.{retained, keeps, labelled, keeps_by_rule, is_reached, keep_reached}
+use Rattle.sm_defs.specs.Retention.{retained, keeps, labels, labelled, keeps_by_rule, is_reached, keep_reached}
 use Rattle.sm_defs.specs.Pruning.{is_made, covered, is_pruned, pruned}
 use Rattle.sm_defs.specs.Common.{common}
 use Rattle.transfer_laws.specs.Keeping.{IsReached, IsWanted}
@@ -66,6 +70,51 @@ newest_stays rules needs older s (rule, e, h) =
     let k : keeps rules needs s [] ≡ true = or_right (needs s.ident) (keeps_by_rule (rule_for rules s.label) 0) (by_rule (rule_for rules s.label) rule e h) in
     let (front, t, f) = begins rules needs older (s ∷ []) in
     (front, t, f ∙ ap (λ b. front ++ cond b (s ∷ []) []) k)
+
+label_is : (o : Option (List ℕ)) (label : List ℕ) → option_eq bytes_eq o (Some label) ≡ true → o ≡ Some label
+label_is None label e = absurd (cc)
+label_is (Some l) label e = ap Some ((bytes_eq-Decides l label).0 e)
+
+room_left : (c : ℕ) (rule : Rule) → rule.preserve ≡ false → (rule.preserve || nat_lt c rule.keep) ≡ true → c < rule.keep
+room_left c rule p e = go (or_cases rule.preserve (nat_lt c rule.keep) e)
+  where
+    go : (rule.preserve ≡ true) ⊎ (nat_lt c rule.keep ≡ true) → c < rule.keep
+    go (inl k) = absurd (both_ways rule.preserve p k)
+    go (inr k) = ltb-true c rule.keep k
+
+room : (rules : List Rule) (needs : Ident → Bool) (x : Snapshot) (others : List Snapshot) (rule : Rule) (label : List ℕ) → needs x.ident ≡ false → x.label ≡ Some label → rule_for rules (Some label) ≡ Some rule → rule.preserve ≡ false →
+    keeps rules needs x others ≡ true → labelled (Some label) (labels others) < rule.keep
+room rules needs x others rule label n e r p h = go (or_cases (needs x.ident) (keeps_by_rule (rule_for rules x.label) (labelled x.label (labels others))) h)
+  where
+    go : (needs x.ident ≡ true) ⊎ (keeps_by_rule (rule_for rules x.label) (labelled x.label (labels others)) ≡ true) → labelled (Some label) (labels others) < rule.keep
+    go (inl k) = absurd (both_ways (needs x.ident) n k)
+    go (inr k) =
+        let l : keeps_by_rule (rule_for rules (Some label)) (labelled (Some label) (labels others)) ≡ true = subst (λ o. keeps_by_rule (rule_for rules o) (labelled o (labels others)) ≡ true) e k in
+        room_left (labelled (Some label) (labels others)) rule p (subst (λ o. keeps_by_rule o (labelled (Some label) (labels others)) ≡ true) r l)
+
+one_more : (x : Snapshot) (others : List Snapshot) (label : List ℕ) (b : Bool) (most : ℕ) → option_eq bytes_eq x.label (Some label) ≡ b → labelled (Some label) (labels others) ≤ most → (b ≡ true → labelled (Some label) (labels others) < most) →
+    labelled (Some label) (labels (x ∷ others)) ≤ most
+one_more x others label true most e l h =
+    let s : labelled (Some label) (labels (x ∷ others)) ≡ cond (option_eq bytes_eq x.label (Some label)) 1 0 + labelled (Some label) (labels others) = sum_by-cons (λ o. cond (option_eq bytes_eq o (Some label)) 1 0) x.label (labels others) in
+    let k : labelled (Some label) (labels (x ∷ others)) ≡ 1 + labelled (Some label) (labels others) = s ∙ ap (λ c. cond c 1 0 + labelled (Some label) (labels others)) e in
+    let m : labelled (Some label) (labels others) < most = h refl in
+    subst (λ n. n ≤ most) (sym k) (omega arith)
+one_more x others label false most e l h =
+    let s : labelled (Some label) (labels (x ∷ others)) ≡ cond (option_eq bytes_eq x.label (Some label)) 1 0 + labelled (Some label) (labels others) = sum_by-cons (λ o. cond (option_eq bytes_eq o (Some label)) 1 0) x.label (labels others) in
+    let k : labelled (Some label) (labels (x ∷ others)) ≡ 0 + labelled (Some label) (labels others) = s ∙ ap (λ c. cond c 1 0 + labelled (Some label) (labels others)) e in
+    subst (λ n. n ≤ most) (sym k) (omega arith)
+
+pub no_more : (rules : List Rule) (needs : Ident → Bool) (ss : List Snapshot) (rule : Rule) (label : List ℕ) → ((s : Snapshot) → Among ss s → needs s.ident ≡ false) →
+    rule_for rules (Some label) ≡ Some rule → rule.preserve ≡ false → labelled (Some label) (labels (retained rules needs ss)) ≤ rule.keep
+no_more rules needs [] rule label n r p = omega arith
+no_more rules needs (x ∷ newer) rule label n r p = go (keeps rules needs x (retained rules needs newer)) refl (no_more rules needs newer rule label (λ s m. n s (inr m)) r p)
+  where
+    go : (b : Bool) → keeps rules needs x (retained rules needs newer) ≡ b → labelled (Some label) (labels (retained rules needs newer)) ≤ rule.keep →
+        labelled (Some label) (labels (cond b (x ∷ retained rules needs newer) (retained rules needs newer))) ≤ rule.keep
+    go true h l =
+        one_more x (retained rules needs newer) label (option_eq bytes_eq x.label (Some label)) rule.keep refl l
+        (λ e. room rules needs x (retained rules needs newer) rule label (n x (inl refl)) (label_is x.label label e) r p h)
+    go false h l = l
 
 -- ---- the first of a list
 

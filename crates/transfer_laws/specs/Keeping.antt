@@ -1,5 +1,5 @@
 -- The laws of what a vault keeps, and of what is needed.
-use Rattle.std.specs.Prelude.{◌≡◌, ◌⊎◌, ◌↔◌, ◌<◌, ◌+◌, ◌++◌, ℕ, Bool, true, Option, List, [], ◌∷◌, Some, None}
+use Rattle.std.specs.Prelude.{◌≡◌, ◌⊎◌, ◌↔◌, ◌<◌, ◌≤◌, ◌+◌, ◌++◌, ℕ, Bool, true, false, Option, List, [], ◌∷◌, Some, None}
 use Rattle.sm_base.specs.declared.numbers.Ident.{Ident}
 use Rattle.sm_defs.specs.Words.{Among, has_ident}
 use Rattle.sm_defs.specs.Volume.{Snapshot}
@@ -44,6 +44,12 @@ abbrev pub RetentionKeepsTheNewest : Type 0
 RetentionKeepsTheNewest =
     (rules : List Rule) (needs : Ident → Bool) (older : List Snapshot) (s : Snapshot) → IsWanted rules s →
     (front : List Snapshot) × Thinned front older × (retained rules needs (older ++ s ∷ []) ≡ front ++ s ∷ [])
+
+-- of snapshots that nobody needs, a rule that does not preserve keeps no more than its number
+abbrev pub RulesKeepNoMore : Type 0
+RulesKeepNoMore =
+    (rules : List Rule) (needs : Ident → Bool) (ss : List Snapshot) (rule : Rule) (label : List ℕ) → ((s : Snapshot) → Among ss s → needs s.ident ≡ false) →
+    rule_for rules (Some label) ≡ Some rule → rule.preserve ≡ false → labelled (Some label) (labels (retained rules needs ss)) ≤ rule.keep
 
 abbrev pub IsReached : List (Option (List ℕ)) → List (Option (List ℕ)) → Rule → Type 0
 IsReached there coming rule = (rule.preserve ≡ true) × (rule.keep < labelled (Some rule.label) there + labelled (Some rule.label) coming)

@@ -6,7 +6,7 @@
 
 ghost use Rattle.transfer_laws.specs.Costs.{MissingTagsAreThese, MissingTagsAreDetermined, MissingPlacesAreThese, MirrorCostsNothing, VaultCostsNothing};
 ghost use Rattle.transfer_laws.specs.Landing.{LandingHasTheLegsBytes, MissingBlocksTakeNumbersInOrder, FreeNumbersAscend, LandingOverwritesNothing, LandingRestsOnMaps};
-ghost use Rattle.transfer_laws.specs.Keeping.{RetentionKeepsTheNeeded, RetentionThins, RetentionKeepsByReason, RetentionBeginsAtTheNewest, RetentionKeepsTheNewest, KeepReachedNamesTheFirst, BasesAreNeeded, LegsAreNeeded};
+ghost use Rattle.transfer_laws.specs.Keeping.{RetentionKeepsTheNeeded, RetentionThins, RetentionKeepsByReason, RetentionBeginsAtTheNewest, RetentionKeepsTheNewest, RulesKeepNoMore, KeepReachedNamesTheFirst, BasesAreNeeded, LegsAreNeeded};
 ghost use Rattle.transfer_laws.specs.Dropping.{PruningDropsExactly, PruningThins, CommonIsTheNewest, NothingIsCommon};
 ghost use Rattle.transfer_laws.specs.Sending.{LegsAreNew, ReservedForWritableSources, VaultsSendByRule, MirrorsOfAllSendAll};
 
@@ -88,6 +88,11 @@ pub fn retention_begins_at_the_newest()
 /// The newest snapshot stays where its label has a rule that preserves or keeps at least one.
 pub fn retention_keeps_the_newest()
     ensures { RetentionKeepsTheNewest }
+{}
+
+/// Where nobody needs any, a rule that does not preserve keeps no more than its number.
+pub fn rules_keep_no_more()
+    ensures { RulesKeepNoMore }
 {}
 
 /// The first rule that preserves and has no room is named, and none exactly where each has room.
