@@ -6,3 +6,9 @@ pub mod Relationship
 pub mod World
 pub mod Edges
 pub mod Needed
+pub mod Thinned
+pub mod Missing
+pub mod Legs
+pub mod Retention
+pub mod Pruning
+pub mod Common

@@ -1,0 +1,75 @@
+// Which snapshots a mirror drops, and the newest common one.
+ghost use Rattle.std.specs.Prelude.{◌≡◌, IfOk};
+ghost use Rattle.std.specs.Option.{option_map};
+ghost use Rattle.sm_defs.specs.Words.{has_ident};
+ghost use Rattle.sm_defs.specs.Volume.{ident_of};
+ghost use Rattle.sm_defs.specs.Relationship.{sends_all};
+ghost use Rattle.sm_defs.specs.Pruning.{is_pruned, pruned};
+ghost use Rattle.sm_defs.specs.Common.{common};
+
+use crate::lists::{has_copy, has_rule_for, is_among, with_first};
+use crate::values::{PlainPolicy, PlainSnapshot};
+use sm_base::{Ident, NoMemory};
+use std::alloc::Global;
+
+pub(crate) fn sends_all(policy: &PlainPolicy) -> bool
+    ensures { result ≡ sends_all policy.now }
+{
+    has_rule_for(&policy.rules, b"all_source_snapshots")
+}
+
+/// Whether pruning drops a snapshot: nobody needs it, and the source has no copy of it or the mirror
+/// does not keep it in step.
+pub fn is_pruned(
+    policy: &PlainPolicy,
+    needed: &[Ident],
+    source: &[PlainSnapshot],
+    snapshot: &PlainSnapshot,
+) -> bool
+    ensures { result ≡ is_pruned policy.now (has_ident needed.now) source.now snapshot.now }
+{
+    let covered = sends_all(policy) || snapshot.maker != 0;
+    !is_among(needed, snapshot.ident) && (!has_copy(source, snapshot.ident) || !covered)
+}
+
+/// What pruning drops of the destination's list.
+pub fn pruned(
+    alloc: Global,
+    policy: &PlainPolicy,
+    needed: &[Ident],
+    source: &[PlainSnapshot],
+    destination: &[PlainSnapshot],
+) -> Result<Vec<PlainSnapshot>, NoMemory>
+    ensures { IfOk result (λ dropped. dropped.items ≡ pruned policy.now (has_ident needed.now) source.now destination.now) }
+{
+    match destination {
+        [] => Ok(Vec::new(alloc)),
+        [snapshot, newer @ ..] => {
+            let dropped = pruned(alloc, policy, needed, source, newer)?;
+            if is_pruned(policy, needed, source, snapshot) {
+                with_first(snapshot.copy(alloc)?, dropped)
+            } else {
+                Ok(dropped)
+            }
+        }
+    }
+}
+
+/// The newest snapshot of the destination that the source has.
+pub fn common(source: &[PlainSnapshot], destination: &[PlainSnapshot]) -> Option<Ident>
+    ensures { result ≡ option_map ident_of (common source.now destination.now) }
+{
+    match destination {
+        [] => None,
+        [snapshot, newer @ ..] => match common(source, newer) {
+            Some(ident) => Some(ident),
+            None => {
+                if has_copy(source, snapshot.ident) {
+                    Some(snapshot.ident)
+                } else {
+                    None
+                }
+            }
+        },
+    }
+}

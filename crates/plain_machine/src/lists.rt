@@ -1,0 +1,85 @@
+// What the other functions ask of lists.
+ghost use Rattle.std.specs.Prelude.{◌≡◌, ◌∷◌, Some, IfOk};
+ghost use Rattle.std.specs.Str.{bytes_eq};
+ghost use Rattle.std.specs.Option.{is_some};
+ghost use Rattle.sm_defs.specs.Words.{same_ident, has_ident};
+ghost use Rattle.sm_defs.specs.Volume.{has};
+ghost use Rattle.sm_defs.specs.Relationship.{rule_for};
+ghost use Rattle.sm_defs.specs.Missing.{rest, first_tag};
+
+use crate::values::{PlainBlock, PlainRule, PlainSnapshot};
+use sm_base::{Ident, NoMemory};
+
+pub(crate) fn same_text(one: &[u8], other: &[u8]) -> bool
+    ensures { result ≡ bytes_eq one.now other.now }
+{
+    one == other
+}
+
+pub(crate) fn is_same(one: Ident, other: Ident) -> bool
+    ensures { result ≡ same_ident one other }
+{
+    one.origin == other.origin && one.seq == other.seq
+}
+
+pub(crate) fn has_copy(snapshots: &[PlainSnapshot], ident: Ident) -> bool
+    ensures { result ≡ has snapshots.now ident }
+{
+    match snapshots {
+        [] => false,
+        [snapshot, others @ ..] => is_same(snapshot.ident, ident) || has_copy(others, ident),
+    }
+}
+
+pub(crate) fn is_among(idents: &[Ident], ident: Ident) -> bool
+    ensures { result ≡ has_ident idents.now ident }
+{
+    match idents {
+        [] => false,
+        [first, others @ ..] => is_same(*first, ident) || is_among(others, ident),
+    }
+}
+
+pub(crate) fn has_rule_for(rules: &[PlainRule], label: &[u8]) -> bool
+    ensures { result ≡ is_some (rule_for rules.now (Some label.now)) }
+{
+    match rules {
+        [] => false,
+        [rule, others @ ..] => {
+            if same_text(rule.label.text(), label) {
+                true
+            } else {
+                has_rule_for(others, label)
+            }
+        }
+    }
+}
+
+pub(crate) fn first_tag(image: &[PlainBlock]) -> u32
+    ensures { result ≡ first_tag image.now }
+{
+    match image {
+        [] => 0,
+        [block, ..] => block.tag,
+    }
+}
+
+pub(crate) fn behind_first(image: &[PlainBlock]) -> &[PlainBlock]
+    ensures { result.now ≡ rest image.now }
+{
+    match image {
+        [] => image,
+        [_, others @ ..] => others,
+    }
+}
+
+// The list with one more at its front.
+pub(crate) fn with_first(
+    first: PlainSnapshot,
+    mut others: Vec<PlainSnapshot>,
+) -> Result<Vec<PlainSnapshot>, NoMemory>
+    ensures { IfOk result (λ all. all.items ≡ first ∷ others.items) }
+{
+    others.insert(0, first)?;
+    Ok(others)
+}

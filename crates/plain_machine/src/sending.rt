@@ -1,0 +1,188 @@
+// Which snapshots a new transfer sends.
+ghost use Rattle.std.specs.Prelude.{not};
+ghost use Rattle.std.specs.Option.{is_some};
+ghost use Rattle.sm_defs.specs.Relationship.{rule_for};
+ghost use Rattle.std.specs.Prelude.{◌≡◌, ◌<◌, ◌^◌, Some, IfOk};
+ghost use Rattle.std.specs.List.{filter};
+ghost use Rattle.sm_defs.specs.Words.{same_ident, after};
+ghost use Rattle.sm_defs.specs.Volume.{has, idents};
+ghost use Rattle.sm_defs.specs.Legs.{after_base, candidates, only_newest, has_rule, made_ident, mirror_legs, vault_legs, legs};
+
+use crate::dropping::sends_all;
+use crate::lists::{has_copy, has_rule_for, is_same, with_first};
+use crate::values::{PlainLegs, PlainPolicy, PlainRule, PlainSnapshot, PlainSource};
+use sm_base::{Ident, Kind, Label, NoMemory, PolicyKind};
+use std::alloc::Global;
+
+fn behind(snapshots: &[PlainSnapshot], base: Ident) -> &[PlainSnapshot]
+    ensures { result.now ≡ after (λ s. same_ident s.ident base) snapshots.now }
+{
+    match snapshots {
+        [] => snapshots,
+        [snapshot, newer @ ..] => {
+            if is_same(snapshot.ident, base) {
+                newer
+            } else {
+                behind(newer, base)
+            }
+        }
+    }
+}
+
+fn behind_base(snapshots: &[PlainSnapshot], base: Option<Ident>) -> &[PlainSnapshot]
+    ensures { result.now ≡ after_base base snapshots.now }
+{
+    match base {
+        None => snapshots,
+        Some(base) => behind(snapshots, base),
+    }
+}
+
+fn is_new(destination: &[PlainSnapshot], ident: Ident) -> bool
+    ensures { result ≡ not (has destination.now ident) }
+{
+    !has_copy(destination, ident)
+}
+
+fn without_copies(
+    alloc: Global,
+    snapshots: &[PlainSnapshot],
+    destination: &[PlainSnapshot],
+) -> Result<Vec<PlainSnapshot>, NoMemory>
+    ensures { IfOk result (λ new. new.items ≡ filter (λ s. not (has destination.now s.ident)) snapshots.now) }
+{
+    match snapshots {
+        [] => Ok(Vec::new(alloc)),
+        [snapshot, newer @ ..] => {
+            let new = without_copies(alloc, newer, destination)?;
+            if is_new(destination, snapshot.ident) {
+                with_first(snapshot.copy(alloc)?, new)
+            } else {
+                Ok(new)
+            }
+        }
+    }
+}
+
+/// The source's snapshots after the base, all of them without one, that the destination does not have.
+pub fn candidates(
+    alloc: Global,
+    base: Option<Ident>,
+    source: &[PlainSnapshot],
+    destination: &[PlainSnapshot],
+) -> Result<Vec<PlainSnapshot>, NoMemory>
+    ensures { IfOk result (λ new. new.items ≡ candidates base source.now destination.now) }
+{
+    without_copies(alloc, behind_base(source, base), destination)
+}
+
+fn idents_of(alloc: Global, snapshots: &[PlainSnapshot]) -> Result<Vec<Ident>, NoMemory>
+    ensures { IfOk result (λ all. all.items ≡ idents snapshots.now) }
+{
+    match snapshots {
+        [] => Ok(Vec::new(alloc)),
+        [snapshot, newer @ ..] => {
+            let mut all = idents_of(alloc, newer)?;
+            all.insert(0, snapshot.ident)?;
+            Ok(all)
+        }
+    }
+}
+
+fn newest_of(snapshots: &[PlainSnapshot]) -> &[PlainSnapshot]
+    ensures { result.now ≡ only_newest snapshots.now }
+{
+    match snapshots {
+        [] => snapshots,
+        [_] => snapshots,
+        [_, newer @ ..] => newest_of(newer),
+    }
+}
+
+fn has_rule(rules: &[PlainRule], label: &Option<Label>) -> bool
+    ensures { result ≡ is_some (rule_for rules.now label.now) }
+{
+    match label {
+        None => false,
+        Some(label) => has_rule_for(rules, label.text()),
+    }
+}
+
+fn ruled_idents(
+    alloc: Global,
+    rules: &[PlainRule],
+    snapshots: &[PlainSnapshot],
+) -> Result<Vec<Ident>, NoMemory>
+    ensures { IfOk result (λ all. all.items ≡ idents (filter (has_rule rules.now) snapshots.now)) }
+{
+    match snapshots {
+        [] => Ok(Vec::new(alloc)),
+        [snapshot, newer @ ..] => {
+            let mut all = ruled_idents(alloc, rules, newer)?;
+            if has_rule(rules, &snapshot.label) {
+                all.insert(0, snapshot.ident)?;
+            }
+            Ok(all)
+        }
+    }
+}
+
+fn of_mirror(
+    alloc: Global,
+    all: bool,
+    kind: Kind,
+    made: Ident,
+    sent: &[PlainSnapshot],
+) -> Result<PlainLegs, NoMemory>
+    ensures { IfOk result (λ sends. sends ≡ mirror_legs all kind made sent.now) }
+{
+    match kind {
+        Kind::Rw => {
+            let mut idents = if all {
+                idents_of(alloc, sent)?
+            } else {
+                Vec::new(alloc)
+            };
+            idents.push(made)?;
+            Ok(PlainLegs {
+                idents,
+                reserved: true,
+            })
+        }
+        Kind::Dp => {
+            let idents = idents_of(alloc, if all { sent } else { newest_of(sent) })?;
+            Ok(PlainLegs {
+                idents,
+                reserved: false,
+            })
+        }
+    }
+}
+
+/// What the transfer of the number sends by a policy.
+pub fn legs(
+    alloc: Global,
+    transfer: u64,
+    policy: &PlainPolicy,
+    base: Option<Ident>,
+    source: &PlainSource,
+    destination: &[PlainSnapshot],
+) -> Result<PlainLegs, NoMemory>
+    requires { transfer < 2 ^ 62 }
+    ensures { IfOk result (λ sends. sends ≡ legs transfer policy.now base source.now destination.now) }
+{
+    let sent = candidates(alloc, base, &source.snapshots, destination)?;
+    match policy.kind {
+        PolicyKind::AsyncMirror => {
+            let made = Ident {
+                origin: source.number,
+                seq: 2 * transfer + 1,
+            };
+            of_mirror(alloc, sends_all(policy), source.kind, made, &sent)
+        }
+        PolicyKind::Vault => Ok(PlainLegs {
+            idents: ruled_idents(alloc, &policy.rules, &sent)?,
+            reserved: false,
+        }),
+    }
+}

@@ -1,0 +1,166 @@
+// Blocks, snapshots and rules as lists and numbers.
+ghost use Rattle.std.specs.Prelude.{◌≡◌, IfOk};
+
+use sm_base::{Ident, Kind, Label, NoMemory, Path1, PolicyKind, SnapName};
+use std::alloc::Global;
+use std::marker::Model;
+
+/// A block's bytes and the number that it lies at, 0 for a hole.
+#[derive(Debug, Drop)]
+pub struct PlainBlock {
+    pub tag: u32,
+    pub bytes: Vec<u8>,
+}
+
+impl Model for PlainBlock {
+    ghost use Rattle.sm_defs.specs.Image.{Block};
+
+    ghost Value = { Block };
+
+    ghost view = { λ b. record { tag = b.tag; bytes = b.bytes.items } };
+}
+
+/// A snapshot with its whole image.
+#[derive(Debug, Drop)]
+pub struct PlainSnapshot {
+    pub ident: Ident,
+    pub name: SnapName,
+    pub label: Option<Label>,
+    pub time: u64,
+    /// The number of the relationship that made it, 0 for a client.
+    pub maker: u32,
+    pub image: Vec<PlainBlock>,
+}
+
+impl Model for PlainSnapshot {
+    ghost use Rattle.sm_defs.specs.Volume.{Snapshot};
+
+    ghost Value = { Snapshot };
+
+    ghost view = { λ s. record { ident = s.ident; name = s.name; label = s.label; time = s.time; maker = s.maker; image = s.image.items } };
+}
+
+/// How many snapshots of a label a vault keeps.
+#[derive(Debug, Drop)]
+pub struct PlainRule {
+    pub label: Label,
+    pub keep: u32,
+    pub preserve: bool,
+}
+
+impl Model for PlainRule {
+    ghost use Rattle.sm_defs.specs.Relationship.{Rule};
+
+    ghost Value = { Rule };
+
+    ghost view = { λ r. record { label = r.label; keep = r.keep; preserve = r.preserve } };
+}
+
+/// A policy with its rules.
+#[derive(Debug, Drop)]
+pub struct PlainPolicy {
+    pub name: Path1,
+    pub kind: PolicyKind,
+    pub rules: Vec<PlainRule>,
+}
+
+impl Model for PlainPolicy {
+    ghost use Rattle.sm_defs.specs.Relationship.{Policy};
+
+    ghost Value = { Policy };
+
+    ghost view = { λ p. record { name = p.name; kind = p.kind; rules = p.rules.items } };
+}
+
+/// What a volume shows to a transfer from it.
+#[derive(Debug, Drop)]
+pub struct PlainSource {
+    pub number: u32,
+    pub kind: Kind,
+    pub snapshots: Vec<PlainSnapshot>,
+}
+
+impl Model for PlainSource {
+    ghost use Rattle.sm_defs.specs.Legs.{Source};
+
+    ghost Value = { Source };
+
+    ghost view = { λ s. record { number = s.number; kind = s.kind; snapshots = s.snapshots.items } };
+}
+
+/// What a transfer sends, oldest first; where reserved, the last is still to be made.
+#[derive(Debug, Drop)]
+pub struct PlainLegs {
+    pub idents: Vec<Ident>,
+    pub reserved: bool,
+}
+
+impl Model for PlainLegs {
+    ghost use Rattle.sm_defs.specs.Legs.{Legs};
+
+    ghost Value = { Legs };
+
+    ghost view = { λ l. record { idents = l.idents.items; reserved = l.reserved } };
+}
+
+/// The base of a vault on both sides; both images are empty where there is none.
+#[derive(Debug, Drop)]
+pub struct PlainBases {
+    pub at_source: Vec<PlainBlock>,
+    pub at_destination: Vec<PlainBlock>,
+}
+
+impl Model for PlainBases {
+    ghost use Rattle.sm_defs.specs.Missing.{Bases};
+
+    ghost Value = { Bases };
+
+    ghost view = { λ b. record { at_source = b.at_source.items; at_destination = b.at_destination.items } };
+}
+
+impl PlainBlock {
+    /// The same block.
+    pub fn copy(&self, alloc: Global) -> Result<PlainBlock, NoMemory>
+        ensures { IfOk result (λ block. block ≡ self.now) }
+    {
+        Ok(PlainBlock {
+            tag: self.tag,
+            bytes: Vec::from_slice(alloc, &self.bytes)?,
+        })
+    }
+}
+
+impl PlainSnapshot {
+    /// The same snapshot.
+    pub fn copy(&self, alloc: Global) -> Result<PlainSnapshot, NoMemory>
+        ensures { IfOk result (λ snapshot. snapshot ≡ self.now) }
+    {
+        Ok(PlainSnapshot {
+            ident: self.ident,
+            name: self.name.copy(alloc)?,
+            label: copy_label(alloc, &self.label)?,
+            time: self.time,
+            maker: self.maker,
+            image: copy_image(alloc, &self.image)?,
+        })
+    }
+}
+
+fn copy_label(alloc: Global, label: &Option<Label>) -> Result<Option<Label>, NoMemory>
+    ensures { IfOk result (λ copy. copy ≡ label.now) }
+{
+    match label {
+        None => Ok(None),
+        Some(label) => Ok(Some(label.copy(alloc)?)),
+    }
+}
+
+fn copy_image(alloc: Global, image: &[PlainBlock]) -> Result<Vec<PlainBlock>, NoMemory>
+    ensures { IfOk result (λ copy. copy.items ≡ image.now) }
+{
+    let mut copy = Vec::new(alloc);
+    for block in image {
+        copy.push(block.copy(alloc)?)?;
+    }
+    Ok(copy)
+}

@@ -1,0 +1,5 @@
+pub mod Lists
+pub mod Asc
+pub mod Landed
+pub mod Kept
+pub mod Sent

@@ -1,0 +1,5 @@
+pub mod Costs
+pub mod Landing
+pub mod Keeping
+pub mod Dropping
+pub mod Sending
