@@ -8,13 +8,10 @@ use Rattle.sm_volume.specs.Assigned.{CanAdopt}
 abbrev pub fresh : Volume
 fresh = new_volume [] 0 Dp 0 2 6
 
-pub one_is_free : stands 1 (tags_of fresh) ≡ false
+pub free : (n : ℕ) → 1 ≤ n → stands n (tags_of fresh) ≡ false
 unfolding hole
-one_is_free = refl
-
-pub two_is_free : stands 2 (tags_of fresh) ≡ false
-unfolding hole
-two_is_free = refl
+free zero some = absurd (omega arith)
+free (suc n) some = refl
 
 abbrev pub pair : List ℕ
 pair = 1 ∷ 2 ∷ []

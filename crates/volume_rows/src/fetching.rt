@@ -5,8 +5,7 @@ ghost use Rattle.sm_defs.specs.Image.{stands};
 ghost use Rattle.sm_defs.specs.Volume.{tags_of};
 
 use crate::table::destination;
-use crate::tests::{TWO_BLOCKS, fill_of, full, made};
-use sm_base::{Kind, VolNo};
+use crate::tests::{fill_of, full, put_and_settle, small};
 use sm_memdisk::MemDisk;
 use sm_volume::Volume;
 use std::test::Fail;
@@ -42,11 +41,8 @@ fn fetched(volume: &mut Volume<MemDisk>, number: u32) -> Result<Option<u8>, Fail
 
 #[test]
 fn a_block_is_fetched_by_its_number(rt: HostRuntime) -> Result<(), Fail> {
-    let alloc = rt.alloc();
-    let disk = MemDisk::new(alloc, TWO_BLOCKS)?;
-    let mut volume = made(Volume::create(alloc, disk, VolNo(0), Kind::Rw, 1, 2))?;
-    volume.write(0, &full(7))?;
-    volume.cp(alloc)?;
+    let mut volume = small(rt.alloc())?;
+    put_and_settle(rt.alloc(), &mut volume, 7)?;
     assert_eq!(rt; fetched(&mut volume, 1)?, Some(7));
     Ok(())
 }

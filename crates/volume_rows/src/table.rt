@@ -1,12 +1,12 @@
 // A volume against the plain definitions, call after call.
-ghost use Rattle.std.specs.Prelude.{◌≡◌, true, Err, OnOk, IfOk};
+ghost use Rattle.std.specs.Prelude.{◌≡◌, ◌≤◌, true, [], Err, OnOk, IfOk};
 ghost use Rattle.std.specs.List.{list_any};
-ghost use Rattle.sm_defs.specs.Volume.{has};
+ghost use Rattle.sm_defs.specs.Volume.{has, new_volume};
 ghost use Rattle.sm_defs.specs.Words.{same_ident};
 ghost use Rattle.volume_store.specs.declared.faults.VolumeFault.{VolumeFault};
 
 use crate::plain::{Call, Kept, Plain};
-use crate::tests::{full, is_full, made};
+use crate::tests::{full, is_full, opened};
 use sm_base::{Ident, Kind, SnapName, VolNo};
 use sm_memdisk::MemDisk;
 use sm_root::{Root, RootSnapshot};
@@ -128,7 +128,7 @@ fn is_taken(volume: &Volume<MemDisk>, ident: Ident) -> bool
 }
 
 // A snapshot of an identity that is new.
-fn snapshot(
+pub fn snapshot(
     alloc: Global,
     volume: &mut Volume<MemDisk>,
     ident: Ident,
@@ -265,15 +265,47 @@ fn run_rows<R: AllocGlobal + Abort>(
     Ok(())
 }
 
+// A new destination of two blocks and six physical ones.
+fn new_destination(alloc: Global) -> Result<Volume<MemDisk>, Fail>
+    ensures up { IfOk result (λ v. v.up ≡ true) }
+    ensures volume { IfOk result (λ v. v.volume ≡ new_volume [] 0 Kind.Dp 0 2 6) }
+{
+    let disk = MemDisk::new(alloc, SIX_BLOCKS)?;
+    match Volume::create(alloc, disk, VolNo(0), Kind::Dp, 2, 6) {
+        Ok(volume) => Ok(volume),
+        Err((_, fault)) => Err(fault)?,
+    }
+}
+
+// Lands a block of this byte at a number of a new destination.
+#[tactic(auto, using(crate::proofs::PairFits::free))]
+fn land(volume: &mut Volume<MemDisk>, number: u32, fill: u8) -> Result<(), VolumeFault>
+    requires up { volume.old.up ≡ true }
+    requires volume { volume.old.volume ≡ new_volume [] 0 Kind.Dp 0 2 6 }
+    requires from_one { 1 ≤ number }
+    requires within { number ≤ 6 }
+    ensures up { OnOk result (volume.new.up ≡ true) }
+    ensures volume { OnOk result (volume.new.volume ≡ volume.old.volume) }
+{
+    volume.land(number, &full(fill))
+}
+
+// Takes over the image of what landed at 1 and 2.
+#[tactic(auto, using(crate::proofs::PairFits::pair_fits))]
+fn adopt(alloc: Global, volume: &mut Volume<MemDisk>, head: Head) -> Result<(), Fail>
+    requires up { volume.old.up ≡ true }
+    requires volume { volume.old.volume ≡ new_volume [] 0 Kind.Dp 0 2 6 }
+    ensures up { OnOk result (volume.new.up ≡ true) }
+{
+    let map = [1, 2].to_vec(alloc)?;
+    volume.adopt(alloc, head, map, 9, &[])?;
+    Ok(())
+}
+
 // A destination that has taken over an image of two blocks.
-#[tactic(auto, using(crate::proofs::PairFits::pair_fits, crate::proofs::PairFits::one_is_free, crate::proofs::PairFits::two_is_free))]
 pub fn destination(alloc: Global) -> Result<Volume<MemDisk>, Fail>
     ensures { IfOk result (λ v. v.up ≡ true) }
 {
-    let disk = MemDisk::new(alloc, SIX_BLOCKS)?;
-    let mut volume = made(Volume::create(alloc, disk, VolNo(0), Kind::Dp, 2, 6))?;
-    volume.land(1, &full(5))?;
-    volume.land(2, &full(6))?;
     let head = Head {
         ident: LANDED,
         name: SnapName::read(alloc, b"landed")?,
@@ -281,8 +313,10 @@ pub fn destination(alloc: Global) -> Result<Volume<MemDisk>, Fail>
         time: 0,
         made: 1,
     };
-    let map = [1, 2].to_vec(alloc)?;
-    volume.adopt(alloc, head, map, 9, &[])?;
+    let mut volume = new_destination(alloc)?;
+    land(&mut volume, 1, 5)?;
+    land(&mut volume, 2, 6)?;
+    adopt(alloc, &mut volume, head)?;
     Ok(volume)
 }
 
@@ -297,7 +331,7 @@ fn each_call_makes_the_plain_assignment(rt: HostRuntime) -> Result<(), Fail> {
     let mut plain = Plain::new(alloc, 9, landed)?;
     compare(&rt, &mut volume, &plain)?;
     run_rows(&rt, &mut volume, &mut plain, &BEFORE_OPENING)?;
-    let mut volume = made(Volume::open(alloc, volume.into_disk(), VolNo(0)))?;
+    let mut volume = opened(alloc, volume.into_disk())?;
     plain.active = plain.stable;
     compare(&rt, &mut volume, &plain)?;
     run_rows(&rt, &mut volume, &mut plain, &AFTER_OPENING)

@@ -1,22 +1,31 @@
 // A commit that the disk stops, and the restart after it.
-use crate::tests::{TWO_BLOCKS, fill_of, full, made};
+ghost use Rattle.std.specs.Prelude.{◌≡◌, true, IfOk};
+
+use crate::tests::{TWO_BLOCKS, byte_of, made, put, put_and_settle, restart, settle};
 use sm_base::{Kind, Side, VolNo};
 use sm_memdisk::{Image, MemDisk};
 use sm_volume::{View, Volume, VolumeFault};
 use std::alloc::Global;
 use std::test::Fail;
 
-// A volume of one block whose stable image holds 7, after a commit of 8 that the disk stopped at this
-// call. What was pending then has this image after a restart.
-fn torn(alloc: Global, call: u64, image: Image) -> Result<Volume<MemDisk>, Fail> {
+// A new volume of one block on a disk of two that stops at this call, with this image of what is pending
+// then after a restart.
+fn stopping(alloc: Global, call: u64, image: Image) -> Result<Volume<MemDisk>, Fail>
+    ensures { IfOk result (λ v. v.up ≡ true) }
+{
     let mut disk = MemDisk::new(alloc, TWO_BLOCKS)?;
     disk.stop_from(call);
     disk.choose(image);
-    let mut volume = made(Volume::create(alloc, disk, VolNo(0), Kind::Rw, 1, 2))?;
-    volume.write(0, &full(7))?;
-    volume.cp(alloc)?;
-    volume.write(0, &full(8))?;
-    match volume.cp(alloc) {
+    Ok(made(Volume::create(alloc, disk, VolNo(0), Kind::Rw, 1, 2))?)
+}
+
+// A volume of one block whose stable image holds 7, after a commit of 8 that the disk stopped at this
+// call.
+fn torn(alloc: Global, call: u64, image: Image) -> Result<Volume<MemDisk>, Fail> {
+    let mut volume = stopping(alloc, call, image)?;
+    put_and_settle(alloc, &mut volume, 7)?;
+    put(&mut volume, 8)?;
+    match settle(alloc, &mut volume) {
         Err(VolumeFault::DiskFault) => Ok(volume),
         _ => Err("the disk did not fail")?,
     }
@@ -25,10 +34,8 @@ fn torn(alloc: Global, call: u64, image: Image) -> Result<Volume<MemDisk>, Fail>
 // The side that a restart answers then, and what the volume's block holds.
 fn restarted(alloc: Global, call: u64, image: Image) -> Result<(Side, Option<u8>), Fail> {
     let mut volume = torn(alloc, call, image)?;
-    let side = volume.restart()?;
-    let mut block = full(0);
-    volume.read(View::Active, 0, &mut block)?;
-    Ok((side, fill_of(&block)))
+    let side = restart(&mut volume)?;
+    Ok((side, byte_of(&mut volume, View::Active)?))
 }
 
 // Creating takes four calls of the disk, as each commit does, and a write takes one: so the commit of
