@@ -1,5 +1,5 @@
 -- Members of lists of maps, and the numbers that they use.
-use Rattle.std.proofs.Common.{◌≡◌, inl, inr, ℕ, zero, suc, ◌<◌, ◌≤◌, List, [], ◌∷◌, ◌++◌, length, get_or, map, Bool, true, false, not, ◌||◌, refl, ◌∙◌, ap, arith}
+use Rattle.std.proofs.Common.{◌≡◌, ◌⊎◌, inl, inr, ℕ, zero, suc, ◌+◌, ◌<◌, ◌≤◌, List, [], ◌∷◌, ◌++◌, length, get_or, slice_get, Some, None, take, map, Bool, true, false, not, ◌||◌, refl, ◌∙◌, ap, arith}
 use Rattle.std.proofs.lemmas.List.{length-map, get_or-map}
 use Rattle.sm_bits.specs.Places.{has}
 use Rattle.sm_defs.specs.Image.{stands}
@@ -8,6 +8,7 @@ use Rattle.sm_root.specs.declared.root.RootSnapshot.{RootSnapshot}
 use Rattle.sm_root.specs.Condition.{map_of}
 use Rattle.sm_space.specs.Free.{free_of}
 use Rattle.volume_store.specs.Maps.{uses, AreUsed, AreFree}
+use Rattle.volume_store.proofs.PutLemmas.{stands_at, uses_one}
 
 pub among_get : {X : Type 0} (xs : List X) (i : ℕ) (d : X) → i < length xs → Among xs (get_or xs i d)
 among_get [] i d less = absurd (omega arith)
@@ -74,3 +75,46 @@ uses_behind (t ∷ ts) s n = swap (stands n s.map) (stands n t.map) (uses (map m
     swap true false c = refl
     swap false true c = refl
     swap false false c = refl
+
+-- the numbers of a map are among the marks
+pub known_in : (set : List Bool) (physical : ℕ) (maps : List (List ℕ)) (x : List ℕ) → AreUsed set physical maps → Among maps x → ((i : ℕ) → get_or x i 0 ≤ physical)
+    → (i : ℕ) → i < length x → has set (get_or x i 0) ≡ true
+known_in set physical maps x are is within i less = are.each (get_or x i 0) (within i) ∙ uses_one maps x (get_or x i 0) is (stands_at x i (get_or x i 0) less refl)
+
+-- the same of an empty one
+pub known_beside : (set : List Bool) (physical : ℕ) (maps : List (List ℕ)) (x : List ℕ) → AreUsed set physical maps → (x ≡ []) ⊎ Among maps x
+    → ((y : List ℕ) → Among maps y → (i : ℕ) → get_or y i 0 ≤ physical) → (i : ℕ) → i < length x → has set (get_or x i 0) ≡ true
+known_beside set physical maps x are (inl none) within i less = absurd (let long : length x ≡ 0 = ap (λ (l : List ℕ). length l) none in omega (arith, long, less))
+known_beside set physical maps x are (inr is) within i less = known_in set physical maps x are is (within x is) i less
+
+-- what was there still is
+pub still_there : (old new more : Bool) → new ≡ (old || more) → old ≡ true → new ≡ true
+still_there old new more is there = is ∙ ap (λ b. b || more) there
+
+pub among_map_take : (n : ℕ) (xs : List RootSnapshot) (y : List ℕ) → Among (map map_of (take n xs)) y → Among (map map_of xs) y
+among_map_take zero xs y is = absurd is
+among_map_take (suc n) [] y is = absurd is
+among_map_take (suc n) (x ∷ xs) y is = elim is [ inl here ↦ inl here | inr there ↦ inr (among_map_take n xs y there) ]
+
+-- one snapshot more
+pub uses_next : (xs : List RootSnapshot) (k : ℕ) (d : RootSnapshot) (n : ℕ) → k < length xs → (uses (map map_of (take k xs)) n || stands n (get_or xs k d).map) ≡ uses (map map_of (take (k + 1) xs)) n
+uses_next [] k d n less = absurd (omega arith)
+uses_next (x ∷ xs) zero d n less = or_none (stands n x.map)
+  where
+    or_none : (a : Bool) → (false || a) ≡ (a || false)
+    or_none true = refl
+    or_none false = refl
+uses_next (x ∷ xs) (suc k) d n less =
+    let e : suc (k + 1) ≡ suc k + 1 = omega arith in
+    or_assoc (stands n x.map) (uses (map map_of (take k xs)) n) (stands n (get_or xs k d).map) ∙ ap (λ b. stands n x.map || b) (uses_next xs k d n (omega arith))
+    ∙ ap (λ (m : ℕ). uses (map map_of (take m (x ∷ xs))) n) e
+  where
+    or_assoc : (a b c : Bool) → ((a || b) || c) ≡ (a || (b || c))
+    or_assoc true b c = refl
+    or_assoc false b c = refl
+
+-- what stands at a place
+pub among_at_place : {X : Type 0} (xs : List X) (i : ℕ) (s : X) → Some s ≡ slice_get xs i → Among xs s
+among_at_place [] i s is = absurd (let e : Some s ≡ None = is in cc)
+among_at_place (x ∷ xs) zero s is = inl (let e : Some s ≡ Some x = is in cc)
+among_at_place (x ∷ xs) (suc i) s is = inr (among_at_place xs i s is)

@@ -10,7 +10,7 @@ ghost use Rattle.volume_store.specs.Maps.{Maps, all_maps, kept_maps, held_maps, 
 
 use crate::faults::VolumeFault;
 use crate::io::View;
-use crate::marks::{held_numbers, mark};
+use crate::marks::{held_numbers, last_map, mark};
 use crate::next::same;
 use sm_base::{Ident, NoMemory};
 use sm_bits::BitMap;
@@ -71,9 +71,13 @@ impl State {
         ensures { IfOk result (λ state. state ≡ record { root = root; active = active.items }) }
     {
         let mut kept = held.copy(alloc)?;
-        mark(&mut kept, root.stable.as_slice());
+        mark(
+            &mut kept,
+            root.stable.as_slice(),
+            last_map(root.snapshots.as_slice()),
+        );
         let mut used = kept.copy(alloc)?;
-        mark(&mut used, &active);
+        mark(&mut used, &active, root.stable.as_slice());
         let mut space = space;
         space.reset(&used);
         Ok(State {
@@ -131,7 +135,11 @@ impl State {
         ensures { IfOk result (λ held. AreUsed held self.now.root.physical (self.now.active ∷ held_maps self.now.root)) }
     {
         let mut held = self.held.copy(alloc)?;
-        mark(&mut held, &self.active);
+        mark(
+            &mut held,
+            &self.active,
+            last_map(self.root.snapshots.as_slice()),
+        );
         Ok(held)
     }
 

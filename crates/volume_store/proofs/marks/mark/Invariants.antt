@@ -7,4 +7,5 @@ abbrev pub invariant-loop-number : goal.invariant-loop-number
 invariant-loop-number l = record {
   long : length l.set ≡ length l.fn.set;
   each : (n : ℕ) → has l.set n ≡ (has l.fn.set n || stands n (take l.number-index l.map));
+  place : l.at ≡ l.number-index;
 }
