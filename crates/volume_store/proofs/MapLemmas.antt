@@ -1,6 +1,8 @@
 -- Members of lists of maps, and the numbers that they use.
-use Rattle.std.proofs.Common.{◌≡◌, ◌⊎◌, inl, inr, ℕ, zero, suc, ◌+◌, ◌<◌, ◌≤◌, List, [], ◌∷◌, ◌++◌, length, get_or, slice_get, Some, None, take, map, Bool, true, false, not, ◌||◌, refl, ◌∙◌, ap, arith}
-use Rattle.std.proofs.lemmas.List.{length-map, get_or-map}
+use Rattle.std.proofs.Common.{◌≡◌, ◌⊎◌, inl, inr, ℕ, zero, suc, ◌+◌, ◌<◌, ◌≤◌, List, [], ◌∷◌, ◌++◌, length, get_or, slice_get, Some, None, take, drop, map, Bool, true, false, not, ◌||◌, ◌==◌, refl, sym, subst, ◌∙◌, ap, arith}
+use Rattle.std.proofs.lemmas.Bool.{cases_eq, cases_order}
+use Rattle.std.proofs.lemmas.Bool.Decides.{nat_tests}
+use Rattle.std.proofs.lemmas.List.{length-map, get_or-map, get_or_past, get_or_append_left, get_or-append-add, take-append-drop}
 use Rattle.sm_bits.specs.Places.{has}
 use Rattle.sm_defs.specs.Image.{stands}
 use Rattle.sm_defs.specs.Words.{Among}
@@ -118,3 +120,66 @@ pub among_at_place : {X : Type 0} (xs : List X) (i : ℕ) (s : X) → Some s ≡
 among_at_place [] i s is = absurd (let e : Some s ≡ None = is in cc)
 among_at_place (x ∷ xs) zero s is = inl (let e : Some s ≡ Some x = is in cc)
 among_at_place (x ∷ xs) (suc i) s is = inr (among_at_place xs i s is)
+
+pub stands-append : (t : ℕ) (xs ys : List ℕ) → stands t (xs ++ ys) ≡ (stands t xs || stands t ys)
+stands-append t [] ys = refl
+stands-append t (x ∷ xs) ys = or_assoc (x == t) (stands t xs) (stands t ys) (stands t (xs ++ ys)) (stands-append t xs ys)
+  where
+    or_assoc : (a b c e : Bool) → e ≡ (b || c) → (a || e) ≡ ((a || b) || c)
+    or_assoc true b c e h = refl
+    or_assoc false b c e h = h
+
+or_left_is : (a b : Bool) → a ≡ true → (a || b) ≡ true
+or_left_is true b h = refl
+or_left_is false b h = absurd (cc)
+
+or_right_is : (a b : Bool) → b ≡ true → (a || b) ≡ true
+or_right_is true b h = refl
+or_right_is false b h = h
+
+either_is : (a b : Bool) → (a || b) ≡ true → (a ≡ true) ⊎ (b ≡ true)
+either_is true b h = inl refl
+either_is false b h = inr h
+
+-- what stands in a part of a map stands in the map
+pub stands_part : (n at k : ℕ) (xs : List ℕ) → stands n (take k (drop at xs)) ≡ true → stands n xs ≡ true
+stands_part n at k xs h =
+    let behind : stands n (drop at xs) ≡ true = subst (λ (l : List ℕ). stands n l ≡ true) (take-append-drop k (drop at xs))
+    (stands-append n (take k (drop at xs)) (drop k (drop at xs)) ∙ or_left_is (stands n (take k (drop at xs))) (stands n (drop k (drop at xs))) h) in
+    subst (λ (l : List ℕ). stands n l ≡ true) (take-append-drop at xs) (stands-append n (take at xs) (drop at xs) ∙ or_right_is (stands n (take at xs)) (stands n (drop at xs)) behind)
+
+-- what stands in a map stands at one of its places
+pub index_known : (set : List Bool) (x : List ℕ) → ((i : ℕ) → i < length x → has set (get_or x i 0) ≡ true) → (n : ℕ) → stands n x ≡ true → has set n ≡ true
+index_known set [] each n h = absurd (cc)
+index_known set (m ∷ ms) each n h = elim (cases_eq m n) [
+  | inl same ↦ ap (has set) (sym same) ∙ each 0 (omega arith)
+  | inr other ↦ index_known set ms (λ i less. each (suc i) (omega arith)) n (elim (either_is (m == n) (stands n ms) h) [ inl is ↦ absurd (other (grind (arith, nat_tests))) | inr later ↦ later ])
+]
+
+-- where all is known the marks stay
+pub known_adds : (a b : Bool) → (b ≡ true → a ≡ true) → a ≡ (a || b)
+known_adds true b h = refl
+known_adds false true h = h refl
+known_adds false false h = refl
+
+-- the marks of a part, and what is left
+pub marks_then : (a b c e f g : Bool) → (a || b) ≡ e → b ≡ (c || f) → g ≡ (a || c) → (g || f) ≡ e
+marks_then a b c e f g whole split new = ap (λ x. x || f) new ∙ or_three a c f ∙ ap (λ x. a || x) (sym split) ∙ whole
+  where
+    or_three : (a c f : Bool) → ((a || c) || f) ≡ (a || (c || f))
+    or_three true c f = refl
+    or_three false c f = refl
+
+pub part_inside : (bound : ℕ) (xs ys rest : List ℕ) → rest ≡ xs ++ ys → ((i : ℕ) → get_or rest i 0 < bound) → (i : ℕ) → get_or xs i 0 < bound
+part_inside bound xs ys rest is inside i = elim (cases_order i (length xs)) [
+  | inl same ↦ subst (λ (n : ℕ). n < bound) (sym (get_or_past xs i 0 (omega (arith, same)))) (positive bound (inside i))
+  | inr (inl less) ↦ subst (λ (n : ℕ). n < bound) (get_or_append_left xs ys 0 i less) (subst (λ (l : List ℕ). get_or l i 0 < bound) is (inside i))
+  | inr (inr more) ↦ subst (λ (n : ℕ). n < bound) (sym (get_or_past xs i 0 (omega (arith, more)))) (positive bound (inside i))
+]
+  where
+    positive : (b : ℕ) {n : ℕ} → n < b → 0 < b
+    positive b h = omega (arith, h)
+
+pub rest_inside : (bound : ℕ) (xs ys rest : List ℕ) → rest ≡ xs ++ ys → ((i : ℕ) → get_or rest i 0 < bound) → (i : ℕ) → get_or ys i 0 < bound
+rest_inside bound xs ys rest is inside i =
+    subst (λ (n : ℕ). n < bound) (get_or-append-add xs ys i 0) (subst (λ (l : List ℕ). get_or l (length xs + i) 0 < bound) is (inside (length xs + i)))

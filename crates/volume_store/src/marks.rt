@@ -1,5 +1,5 @@
 // Which physical numbers the maps of a root use.
-ghost use Rattle.std.specs.Prelude.{◌≡◌, ℕ, ◌<◌, ◌≤◌, ◌||◌, ◌⊎◌, [], map, true, length, slice_index, slice_set, IfOk};
+ghost use Rattle.std.specs.Prelude.{◌≡◌, ◌⊎◌, [], ℕ, ◌+◌, ◌^◌, ◌++◌, ◌<◌, ◌≤◌, ◌||◌, true, length, map, slice_index, slice_set, IfOk};
 ghost use Rattle.sm_bits.specs.Places.{has};
 ghost use Rattle.sm_defs.specs.Image.{stands};
 ghost use Rattle.sm_defs.specs.Words.{Among};
@@ -21,22 +21,47 @@ fn put(set: &mut BitMap, number: u32)
     }
 }
 
-// Whether the number stands at that place of a map.
-fn is_at(map: &[u32], at: usize, number: u32) -> bool
-    ensures { result ≡ true → (at < length map.now) × (slice_index map.now at ≡ number) }
+// Adds the numbers of a part of a map, and 0 where it has a hole.
+fn put_all(set: &mut BitMap, part: &[u32])
+    requires { (i : ℕ) → slice_index part.now i < length set.old }
+    ensures long { length set.new ≡ length set.old }
+    ensures each { (n : ℕ) → has set.new n ≡ (has set.old n || stands n part.now) }
 {
-    at < map.len() && map[at] == number
+    for number in part {
+        put(set, *number);
+    }
 }
 
-// Adds a number, where it is not known to be there.
-fn put_unless(known: bool, set: &mut BitMap, number: u32)
-    requires inside { number < length set.old }
-    requires known { known ≡ true → has set.old number ≡ true }
-    ensures { set.new ≡ slice_set set.old number true }
+// Adds them, where they are not known to be there.
+fn put_unless(known: bool, set: &mut BitMap, part: &[u32])
+    requires inside { (i : ℕ) → slice_index part.now i < length set.old }
+    requires known { known ≡ true → (n : ℕ) → stands n part.now ≡ true → has set.old n ≡ true }
+    ensures long { length set.new ≡ length set.old }
+    ensures each { (n : ℕ) → has set.new n ≡ (has set.old n || stands n part.now) }
 {
     if !known {
-        put(set, number);
+        put_all(set, part);
     }
+}
+
+// Whether the part stands in a map, from a place on.
+fn stands_in(part: &[u32], map: &[u32], from: usize) -> bool
+    requires { from + length part.now < 2 ^ 64 }
+    ensures { result ≡ true → (n : ℕ) → stands n part.now ≡ true → stands n map.now ≡ true }
+{
+    let to = from + part.len();
+    to <= map.len() && &map[from..to] == part
+}
+
+// How many numbers of two maps are compared at once.
+const RUN: usize = 64;
+
+// The first numbers, and those behind them.
+fn first_run(rest: &[u32]) -> (&[u32], &[u32])
+    ensures parts { rest.now ≡ result.0.now ++ result.1.now }
+    ensures some { 0 < length rest.now → 0 < length result.0.now }
+{
+    rest.split_at(rest.len().min(RUN))
 }
 
 // Adds the numbers of a map, and 0 where it has a hole. The numbers of `beside` are there: maps differ at
@@ -47,10 +72,13 @@ pub(crate) fn mark(set: &mut BitMap, map: &[u32], beside: &[u32])
     ensures long { length set.new ≡ length set.old }
     ensures each { (n : ℕ) → has set.new n ≡ (has set.old n || stands n map.now) }
 {
+    let mut rest = map;
     let mut at = 0;
-    for number in map {
-        put_unless(is_at(beside, at, *number), set, *number);
-        at += 1;
+    while !rest.is_empty() {
+        let (part, more) = first_run(rest);
+        put_unless(stands_in(part, beside, at), set, part);
+        at += part.len();
+        rest = more;
     }
 }
 
