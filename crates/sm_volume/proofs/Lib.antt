@@ -5,3 +5,4 @@ pub mod MountedLemmas
 pub mod CallLemmas
 pub mod AdoptLemmas
 pub mod RestartLemmas
+pub mod OpenLemmas

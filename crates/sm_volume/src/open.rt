@@ -6,6 +6,7 @@ ghost use Rattle.sm_disk.specs.Disk.{GoesOn, IsCounted, IsSynced};
 ghost use Rattle.volume_store.specs.Opened.{need, IsCreateFault, IsOpenFault};
 ghost use Rattle.sm_volume.specs.Mounted.{Mounted, opened};
 ghost use Rattle.sm_volume.specs.Shown.{Selects, KeepsBlocks, NoBlock};
+ghost use Rattle.sm_volume.specs.Opening.{AnswersEachFault};
 
 use crate::volume::Volume;
 use sm_base::{Kind, VolNo};
@@ -59,6 +60,7 @@ impl<D: Disk> Volume<D> {
         ensures ok { IfOk result (λ v. (v ≡ record v { number = number; after = None; up = true }) × (v.volume ≡ opened v.volume)
             × (IsTrue (D.state disk).told → Selects v.selected number v.volume (D.state disk).seen)) }
         ensures faults { IfErr result (λ e. IsOpenFault (D.state disk) number e.1) }
+        ensures exact { AnswersEachFault (D.state disk) number result }
         ensures counted { IfErr result (λ e. e.1 ≡ VolumeFault.DiskFault → IsCounted (D.state disk) (D.state e.0)) }
         ensures seen { MatchResult result (λ v. (D.state v.disk).seen ≡ (D.state disk).seen) (λ e. (D.state e.0).seen ≡ (D.state disk).seen) }
         ensures any_moment { MatchResult result (λ v. GoesOn (D.state disk) (D.state v.disk) (D.state disk).may_leave) (λ e. GoesOn (D.state disk) (D.state e.0) (D.state disk).may_leave) }

@@ -1,2 +1,3 @@
 pub mod HasKept
 pub mod PairFits
+pub mod Ready

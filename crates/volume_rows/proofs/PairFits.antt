@@ -1,5 +1,6 @@
 -- A new destination of two blocks and six physical ones, and a map of two different numbers.
-use Rattle.std.proofs.Common.{◌≡◌, false, ℕ, zero, suc, ◌<◌, ◌≤◌, List, [], ◌∷◌, slice_index, refl, arith}
+use Rattle.std.proofs.Common.{◌≡◌, ◌||◌, ◌==◌, Bool, true, false, ℕ, zero, suc, ◌<◌, ◌≤◌, List, [], ◌∷◌, slice_index, refl, arith}
+use Rattle.std.proofs.lemmas.Bool.Decides.{nat_tests}
 use Rattle.sm_base.specs.declared.numbers.Kind.TheVariants.{Dp}
 use Rattle.sm_defs.specs.Image.{hole, stands}
 use Rattle.sm_defs.specs.Volume.{Volume, new_volume, tags_of}
@@ -8,10 +9,13 @@ use Rattle.sm_volume.specs.Assigned.{CanAdopt}
 abbrev pub fresh : Volume
 fresh = new_volume [] 0 Dp 0 2 6
 
+four : (b : Bool) → b ≡ false → (b || (b || (b || (b || false)))) ≡ false
+four true e = absurd (cc)
+four false e = refl
+
 pub free : (n : ℕ) → 1 ≤ n → stands n (tags_of fresh) ≡ false
 unfolding hole
-free zero some = absurd (omega arith)
-free (suc n) some = refl
+free n some = four (0 == n) (grind (arith, nat_tests))
 
 abbrev pub pair : List ℕ
 pair = 1 ∷ 2 ∷ []

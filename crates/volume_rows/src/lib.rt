@@ -4,6 +4,8 @@
 #[cfg(test)]
 mod fetching;
 #[cfg(test)]
+mod listed;
+#[cfg(test)]
 mod plain;
 #[cfg(test)]
 mod table;
