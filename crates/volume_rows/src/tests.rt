@@ -45,11 +45,18 @@ pub fn made(
 }
 
 // A new volume of one block on a disk of two.
+pub fn created(alloc: Global, disk: MemDisk) -> Result<Volume<MemDisk>, VolumeFault>
+    ensures { IfOk result (λ v. v.up ≡ true) }
+{
+    made(Volume::create(alloc, disk, VolNo(0), Kind::Rw, 1, 2))
+}
+
+// The same on a disk that fails at no call.
 pub fn small(alloc: Global) -> Result<Volume<MemDisk>, Fail>
     ensures { IfOk result (λ v. v.up ≡ true) }
 {
     let disk = MemDisk::new(alloc, TWO_BLOCKS)?;
-    Ok(made(Volume::create(alloc, disk, VolNo(0), Kind::Rw, 1, 2))?)
+    Ok(created(alloc, disk)?)
 }
 
 // Writes this byte at every place of block 0.

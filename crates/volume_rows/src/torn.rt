@@ -1,30 +1,34 @@
 // A commit that the disk stops, and the restart after it.
 ghost use Rattle.std.specs.Prelude.{◌≡◌, true, IfOk};
 
-use crate::tests::{TWO_BLOCKS, byte_of, made, put, put_and_settle, restart, settle};
-use sm_base::{Kind, Side, VolNo};
+use crate::tests::{TWO_BLOCKS, byte_of, created, put, put_and_settle, restart, settle};
+use sm_base::Side;
 use sm_memdisk::{Image, MemDisk};
 use sm_volume::{View, Volume, VolumeFault};
 use std::alloc::Global;
 use std::test::Fail;
 
-// A new volume of one block on a disk of two that stops at this call, with this image of what is pending
-// then after a restart.
-fn stopping(alloc: Global, call: u64, image: Image) -> Result<Volume<MemDisk>, Fail>
-    ensures { IfOk result (λ v. v.up ≡ true) }
-{
+// A disk of two blocks that stops at this call, with this image of what is pending then after a restart.
+fn stopping(alloc: Global, call: u64, image: Image) -> Result<MemDisk, Fail> {
     let mut disk = MemDisk::new(alloc, TWO_BLOCKS)?;
     disk.stop_from(call);
     disk.choose(image);
-    Ok(made(Volume::create(alloc, disk, VolNo(0), Kind::Rw, 1, 2))?)
+    Ok(disk)
 }
 
-// A volume of one block whose stable image holds 7, after a commit of 8 that the disk stopped at this
-// call.
-fn torn(alloc: Global, call: u64, image: Image) -> Result<Volume<MemDisk>, Fail> {
-    let mut volume = stopping(alloc, call, image)?;
+// A volume of one block on the disk whose stable image holds 7, after a write of 8.
+fn written(alloc: Global, disk: MemDisk) -> Result<Volume<MemDisk>, VolumeFault>
+    ensures { IfOk result (λ v. v.up ≡ true) }
+{
+    let mut volume = created(alloc, disk)?;
     put_and_settle(alloc, &mut volume, 7)?;
     put(&mut volume, 8)?;
+    Ok(volume)
+}
+
+// The same after a commit of 8 that the disk stopped at this call.
+fn torn(alloc: Global, call: u64, image: Image) -> Result<Volume<MemDisk>, Fail> {
+    let mut volume = written(alloc, stopping(alloc, call, image)?)?;
     match settle(alloc, &mut volume) {
         Err(VolumeFault::DiskFault) => Ok(volume),
         _ => Err("the disk did not fail")?,
