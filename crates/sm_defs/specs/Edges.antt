@@ -4,27 +4,25 @@ use Rattle.std.specs.List.{list_any, filter}
 use Rattle.sm_defs.specs.Volume.{Volume, is_rw}
 use Rattle.sm_defs.specs.Relationship.{Relationship, Transfer, is_mirror}
 use Rattle.sm_defs.specs.World.{Up, volume_at, policy_at}
-
-pub data MirrorState : Type 0 where
-  uninitialized snapmirrored broken_off : MirrorState
-
-pub data Status : Type 0 where
-  idle transferring quiescing quiesced : Status
+use Rattle.sm_defs.specs.declared.states.MirrorState.{MirrorState}
+use Rattle.sm_defs.specs.declared.states.MirrorState.TheVariants.{Uninitialized, Snapmirrored, BrokenOff}
+use Rattle.sm_defs.specs.declared.states.Status4.{Status4}
+use Rattle.sm_defs.specs.declared.states.Status4.TheVariants.{Idle, Transferring, Quiescing, Quiesced}
 
 abbrev pub is_empty : {X : Type 0} → List X → Bool
 is_empty [] = true
 is_empty (x ∷ xs) = false
 
 abbrev pub state_of : Bool → Bool → MirrorState
-state_of true empty = broken_off
-state_of false true = uninitialized
-state_of false false = snapmirrored
+state_of true empty = BrokenOff
+state_of false true = Uninitialized
+state_of false false = Snapmirrored
 
 abbrev pub mirror_state : Volume → MirrorState
 mirror_state v = state_of (is_rw v.kind) (is_empty v.snapshots)
 
 abbrev pub is_snapmirrored : MirrorState → Bool
-is_snapmirrored snapmirrored = true
+is_snapmirrored Snapmirrored = true
 is_snapmirrored _ = false
 
 abbrev pub is_running : Option Transfer → Bool
@@ -34,13 +32,13 @@ is_running (Some t) = is_none t.stopped
 abbrev pub runs : Relationship → Bool
 runs r = is_running r.transfer
 
-abbrev pub status_of : Bool → Bool → Status
-status_of true true = quiescing
-status_of true false = transferring
-status_of false true = quiesced
-status_of false false = idle
+abbrev pub status_of : Bool → Bool → Status4
+status_of true true = Quiescing
+status_of true false = Transferring
+status_of false true = Quiesced
+status_of false false = Idle
 
-abbrev pub status : Relationship → Status
+abbrev pub status : Relationship → Status4
 status r = status_of (runs r) r.quiesced
 
 -- from a volume to a volume

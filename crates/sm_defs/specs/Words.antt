@@ -27,6 +27,11 @@ abbrev pub found : {X : Type 0} → (X → Bool) → List X → Option (Found X)
 found test [] = None
 found test (x ∷ xs) = cond (test x) (Some (record { at = 0; item = x })) (next_place (found test xs))
 
+-- the first, or else the second
+abbrev pub or_else : {X : Type 0} → Option X → Option X → Option X
+or_else (Some x) o = Some x
+or_else None o = o
+
 -- the last that passes
 abbrev pub or_earlier : {X : Type 0} → Option X → Bool → X → Option X
 or_earlier (Some y) b x = Some y

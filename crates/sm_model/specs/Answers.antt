@@ -1,15 +1,17 @@
 -- What an answer is: a reply with the next world, or a refusal.
-use Rattle.std.specs.Prelude.{◌≡◌, ℕ, Bool, true, false, List, Option, Some, None, Result, Ok, Err, Box}
+use Rattle.std.specs.Prelude.{◌≡◌, ℕ, ◌==◌, ◌&&◌, Bool, true, false, List, Option, Some, None, Result, Ok, Err, Box}
 use Rattle.std.specs.Global.{Global}
 use Rattle.std.specs.Str.{bytes_eq}
 use Rattle.sm_base.specs.declared.numbers.Block.{Block as StoredBlock}
 use Rattle.sm_base.specs.declared.numbers.VolNo.{VolNo}
+use Rattle.sm_base.specs.declared.numbers.RelNo.{RelNo}
 use Rattle.sm_base.specs.declared.refusal.Refusal.{Refusal}
 use Rattle.sm_base.specs.declared.refusal.Refusal.TheVariants as refusals
 use Rattle.sm_model.specs.declared.reply.Reply.{Reply}
 use Rattle.sm_model.specs.declared.reply.Reply.TheVariants as replies
 use Rattle.sm_defs.specs.Words.{Found, found}
 use Rattle.sm_defs.specs.Volume.{Volume}
+use Rattle.sm_defs.specs.Relationship.{Relationship, Policy}
 use Rattle.sm_defs.specs.World.{Up}
 
 -- what a reply tells: itself, or the bytes of a block in some box
@@ -54,6 +56,12 @@ unfoldable pub some_or : {A : Type 0} → Refusal → Option A → Result A Refu
 some_or r None = Err r
 some_or r (Some x) = Ok x
 
+-- one answer or the other
+infix 2 whether◌then◌otherwise◌
+unfoldable pub whether◌then◌otherwise◌ : Bool → Answer → Answer → Answer
+whether true then a otherwise b = a
+whether false then a otherwise b = b
+
 -- the reply, with this world
 infix 3 ◌and◌
 abbrev pub ◌and◌ : Reply → Up → Answer
@@ -66,5 +74,26 @@ shows bs w = Ok (record { reply = bytes bs; world = w })
 abbrev pub volno : ℕ → VolNo
 volno n = record { 0 = n }
 
+abbrev pub relno : ℕ → RelNo
+relno n = record { 0 = n }
+
 abbrev pub volume_named : Up → List ℕ → Result (Found Volume) Refusal
 volume_named w path = some_or (refusals.NoVolume path) (found (λ v. bytes_eq v.path path) w.volumes)
+
+abbrev pub policy_named : Up → List ℕ → Result (Found Policy) Refusal
+policy_named w name = some_or (refusals.NoPolicy name) (found (λ p. bytes_eq p.name name) w.policies)
+
+-- with its destination half at the volume
+abbrev pub goes_to : ℕ → Relationship → Bool
+goes_to i r = r.destination_half && (r.destination == i)
+
+-- a destination with its relationship
+pub record Target : Type 0 where
+  pub destination : Found Volume
+  pub relation : Found Relationship
+
+unfoldable pub target_named : Up → List ℕ → Result Target Refusal
+target_named w path = do
+  q ← volume_named w path
+  r ← some_or (refusals.NoRelation path) (found (goes_to q.at) w.relations)
+  Ok (record { destination = q; relation = r })

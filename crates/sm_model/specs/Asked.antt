@@ -5,7 +5,8 @@ use Rattle.sm_model.specs.declared.event.Event.TheVariants as events
 use Rattle.sm_model.specs.declared.reply.Entry.{Entry}
 use Rattle.sm_defs.specs.Volume.{Volume, numbers}
 use Rattle.sm_defs.specs.World.{Up}
-use Rattle.sm_model.specs.Answers.{volno}
+use Rattle.sm_defs.specs.Relationship.{Relationship}
+use Rattle.sm_model.specs.Answers.{volno, relno}
 
 -- who asked for what, and for which line of the script
 pub record Asked : Type 0 where
@@ -32,6 +33,9 @@ abbrev pub events_of_volumes : ℕ → List Volume → List Event
 events_of_volumes i [] = []
 events_of_volumes i (v ∷ vs) = events_of_volume i v ++ events_of_volumes (suc i) vs
 
+abbrev pub event_of_relation : Relationship → Event
+event_of_relation r = events.RelationLine (relno r.number)
+
 -- the report of a world
 abbrev pub report_events : Up → List Event
-report_events w = events.Head ∷ events_of_volumes 0 w.volumes
+report_events w = events.Head ∷ (events_of_volumes 0 w.volumes ++ map event_of_relation w.relations)

@@ -1,5 +1,5 @@
 -- What events on volumes and snapshots are answered.
-use Rattle.std.specs.Prelude.{ℕ, suc, ◌+◌, ◌*◌, ◌==◌, ◌||◌, not, nat_lt, nat_le, List, [], ◌∷◌, ◌++◌, length, slice_set, slice_get, slice_index_or, Option, Some, None, Result, Ok}
+use Rattle.std.specs.Prelude.{ℕ, suc, ◌+◌, ◌*◌, ◌==◌, ◌||◌, not, nat_lt, nat_le, List, [], ◌∷◌, ◌++◌, length, slice_set, slice_get, slice_index_or, Option, Some, None, Result, Ok, Err}
 use Rattle.std.specs.List.{list_any}
 use Rattle.std.specs.Str.{bytes_eq}
 use Rattle.sm_base.specs.declared.numbers.Ident.{Ident}
@@ -10,11 +10,13 @@ use Rattle.sm_base.specs.declared.refusal.Refusal.{Refusal}
 use Rattle.sm_base.specs.declared.refusal.Refusal.TheVariants as refusals
 use Rattle.sm_model.specs.declared.reply.Reply.TheVariants as replies
 use Rattle.sm_defs.specs.Limits.{most_volumes, most_snapshots, last_number, before_blocks}
-use Rattle.sm_defs.specs.Words.{last_that}
+use Rattle.sm_defs.specs.Words.{last_that, same_ident}
 use Rattle.sm_defs.specs.Image.{Image, Block, hole, full_block}
-use Rattle.sm_defs.specs.Volume.{Volume, Snapshot, new_volume, is_rw, used, free_tags}
+use Rattle.sm_defs.specs.Volume.{Volume, Snapshot, new_volume, is_rw, used, free_tags, without}
+use Rattle.sm_defs.specs.Relationship.{Relationship}
+use Rattle.sm_defs.specs.Needed.{holder}
 use Rattle.sm_defs.specs.World.{Up, with_volume}
-use Rattle.sm_model.specs.Answers.{Answer, ◌>>=◌, ◌>>◌, ◌when◌, ◌and◌, shows, some_or, volume_named, volno}
+use Rattle.sm_model.specs.Answers.{Answer, ◌>>=◌, ◌>>◌, ◌when◌, ◌and◌, shows, some_or, volume_named, volno, relno}
 
 -- how long a disk has to be, in bytes
 abbrev pub length_needed : ℕ → ℕ
@@ -79,6 +81,32 @@ snap w path name label = do
 -- the newest of the name
 abbrev pub snapshot_named : Volume → List ℕ → Result Snapshot Refusal
 snapshot_named v name = some_or (refusals.NoSnapshot name) (last_that (λ s. bytes_eq s.name name) v.snapshots)
+
+-- somebody needs it
+unfoldable pub held : Option Relationship → Result (Unit {0}) Refusal
+held None = Ok tt
+held (Some r) = Err (refusals.Held (relno r.number))
+
+abbrev pub without_snapshot : Volume → Ident → Volume
+without_snapshot v i = without (λ s. same_ident s.ident i) v
+
+abbrev pub unsnap : Up → List ℕ → List ℕ → Answer
+unsnap w path name = do
+  v ← volume_named w path
+  s ← snapshot_named v.item name
+  refusals.ReadOnly when not (is_rw v.item.kind)
+  held (holder w v.at s.ident)
+  replies.Done and with_volume w v.at (without_snapshot v.item s.ident)
+
+-- the active image is the stable one
+abbrev pub at_point : Volume → Volume
+at_point v = record v { stable = v.active }
+
+abbrev pub cp : Up → List ℕ → Answer
+cp w path = do
+  v ← volume_named w path
+  refusals.ReadOnly when not (is_rw v.item.kind)
+  replies.Done and with_volume w v.at (at_point v.item)
 
 unfoldable pub image_named : Volume → Option (List ℕ) → Result Image Refusal
 image_named v None = Ok v.active

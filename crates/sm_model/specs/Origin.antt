@@ -4,7 +4,7 @@ use Rattle.std.specs.List.{find}
 use Rattle.sm_base.specs.declared.numbers.Ident.{Ident}
 use Rattle.sm_model.specs.declared.reply.Reply.{Reply}
 use Rattle.sm_model.specs.declared.reply.Reply.TheVariants as replies
-use Rattle.sm_defs.specs.Words.{same_ident, is_ident}
+use Rattle.sm_defs.specs.Words.{same_ident, is_ident, or_else}
 use Rattle.sm_defs.specs.Image.{Image}
 use Rattle.sm_defs.specs.Volume.{Volume, Snapshot}
 use Rattle.sm_defs.specs.World.{Up, volume_at}
@@ -13,24 +13,17 @@ use Rattle.sm_model.specs.World.{Deed}
 -- the identity that a reply tells of
 unfoldable pub made_by : Reply → Option Ident
 made_by (replies.Snapped i) = Some i
-made_by replies.Done = None
-made_by (replies.Created volume) = None
-made_by (replies.Bytes block) = None
-made_by (replies.Line line) = None
-made_by (replies.Refused refusal) = None
+made_by (replies.Prepared relation i) = Some i
+made_by _ = None
 
 -- the deed took the snapshot of this identity
 abbrev pub makes : Ident → Deed → Bool
 makes i d = is_ident (made_by d.reply) i
 
-abbrev pub or_next : Option Snapshot → Option Snapshot → Option Snapshot
-or_next (Some s) o = Some s
-or_next None o = o
-
 -- the copy on the lowest volume
 abbrev pub lowest_copy : Ident → List Volume → Option Snapshot
 lowest_copy i [] = None
-lowest_copy i (v ∷ vs) = or_next (find (λ s. same_ident s.ident i) v.snapshots) (lowest_copy i vs)
+lowest_copy i (v ∷ vs) = or_else (find (λ s. same_ident s.ident i) v.snapshots) (lowest_copy i vs)
 
 -- what a deed found active on the identity's volume
 abbrev pub found_active : Ident → Option Deed → Option Image

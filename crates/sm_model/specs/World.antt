@@ -1,4 +1,4 @@
--- A world, and what was done in it.
+-- A world that is up or down, and what was done in it.
 use Rattle.std.specs.Prelude.{ℕ}
 use Rattle.sm_model.specs.declared.event.Event.{Event}
 use Rattle.sm_model.specs.declared.reply.Reply.{Reply}
@@ -12,6 +12,8 @@ pub record Deed : Type 0 where
   pub reply : Reply
   pub new : Up
 
--- the node is up
+-- The node is up; or it is down since the disk of this number failed in a deed, and a restart finds the
+-- world before that deed or the one after it.
 pub data World : Type 0 where
   up : Up → World
+  down : ℕ → Deed → World

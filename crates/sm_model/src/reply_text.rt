@@ -1,12 +1,14 @@
 ghost use Rattle.std.specs.Prelude.{◌≡◌, ◌++◌, IfOk, OnOk, OnErr, string_bytes, ◌==◌};
 ghost use Rattle.std.specs.List.{list_all};
-ghost use Rattle.sm_model.specs.Text.{reply_text, entry_text, bytes_text, same_byte};
+ghost use Rattle.std.specs.Option.{option_map};
+ghost use Rattle.sm_model.specs.Text.{reply_text, entry_text, bytes_text, same_byte, table_lines, table_text, dropped_text, reason_text, ended_text, settled_text, down_disk as disk_of_down, report_text, ends_settling, shown_text, line_of_text};
 
-use crate::line_text::text_of_line;
+use crate::event::Event;
+use crate::line_text::{text_of_line, word_of_reason};
 use crate::refusal_text::text_of_refusal;
-use crate::reply::{Entry, Reply};
+use crate::reply::{Entry, Line, Reply};
 use sha2::{Digest, Sha256};
-use sm_base::NoMemory;
+use sm_base::{Ident, NoMemory, Reason, Refusal, RelNo};
 use std::alloc::Global;
 
 fn all_are(byte: u8, bytes: &[u8]) -> bool
@@ -44,7 +46,74 @@ fn text_of_bytes(alloc: Global, bytes: &[u8]) -> Result<String, NoMemory>
     }
 }
 
+/// A table's lines, each behind a line end and two spaces.
+fn lines_of_table(alloc: Global, lines: &[Line]) -> Result<String, NoMemory>
+    ensures { IfOk result (λ text. string_bytes text ≡ table_lines lines.now) }
+{
+    let mut text = String::new(alloc);
+    for line in lines {
+        let words = text_of_line(alloc, line)?;
+        text.push_str("\n  ")?;
+        text.push_str(words.as_str())?;
+    }
+    Ok(text)
+}
+
+fn text_of_table(alloc: Global, lines: &[Line]) -> Result<String, NoMemory>
+    ensures { IfOk result (λ text. string_bytes text ≡ table_text lines.now) }
+{
+    let count = lines.len();
+    let more = lines_of_table(alloc, lines)?;
+    Ok(format!(in alloc; "ok lines={count}{more}")?)
+}
+
+/// What a step says that lets snapshots go.
+fn text_of_dropped(alloc: Global, relation: RelNo, dropped: u32) -> Result<String, NoMemory>
+    ensures { IfOk result (λ text. string_bytes text ≡ dropped_text relation dropped) }
+{
+    let number = relation.0;
+    Ok(format!(in alloc; " relationship={number} dropped={dropped}")?)
+}
+
+/// Why a transfer cannot go on, with the reason's fields.
+fn text_of_reason(alloc: Global, reason: Reason) -> Result<String, NoMemory>
+    ensures { IfOk result (λ text. string_bytes text ≡ reason_text reason) }
+{
+    match reason {
+        Reason::HeldDownstream { ident, relation } => {
+            let by = relation.0;
+            Ok(format!(in alloc; "HeldDownstream id={ident} by={by}")?)
+        }
+        Reason::NoSpace { need, free } => Ok(format!(in alloc; "NoSpace need={need} free={free}")?),
+        Reason::SourceReadOnly => Ok(String::from_str(alloc, word_of_reason(reason))?),
+        Reason::SnapFull => Ok(String::from_str(alloc, word_of_reason(reason))?),
+        Reason::OtherLayout => Ok(String::from_str(alloc, word_of_reason(reason))?),
+        Reason::Aborted => Ok(String::from_str(alloc, word_of_reason(reason))?),
+        Reason::Restart => Ok(String::from_str(alloc, word_of_reason(reason))?),
+    }
+}
+
+fn word_of_end(ended: bool) -> &'static str
+    ensures { result.now ≡ ended_text ended }
+{
+    if ended { " ended" } else { "" }
+}
+
+fn text_of_settled(
+    alloc: Global,
+    relation: RelNo,
+    base: Ident,
+    ended: bool,
+) -> Result<String, NoMemory>
+    ensures { IfOk result (λ text. string_bytes text ≡ settled_text relation base ended) }
+{
+    let number = relation.0;
+    let end = word_of_end(ended);
+    Ok(format!(in alloc; "settle relationship={number} base={base}{end}")?)
+}
+
 /// A reply's text, without its line end.
+#[tactic(auto, unfolding(crate::specs::Text::reply_text))]
 pub fn text_of_reply(alloc: Global, reply: &Reply) -> Result<String, NoMemory>
     ensures { IfOk result (λ text. string_bytes text ≡ reply_text reply.now) }
 {
@@ -55,9 +124,142 @@ pub fn text_of_reply(alloc: Global, reply: &Reply) -> Result<String, NoMemory>
             Ok(format!(in alloc; "ok volume={number}")?)
         }
         Reply::Snapped { ident } => Ok(format!(in alloc; "ok id={ident}")?),
+        Reply::Related { relation } => {
+            let number = relation.0;
+            Ok(format!(in alloc; "ok relationship={number}")?)
+        }
+        Reply::Started { transfer, legs } => {
+            Ok(format!(in alloc; "ok transfer={transfer} legs={legs}")?)
+        }
+        Reply::Resumed {
+            transfer,
+            checkpoint,
+        } => Ok(format!(in alloc; "ok transfer={transfer} resumed={checkpoint}")?),
+        Reply::Nothing => Ok(String::from_str(alloc, "ok nothing to transfer")?),
+        Reply::Kept { checkpoint } => Ok(format!(in alloc; "ok checkpoint={checkpoint}")?),
+        Reply::Ended => Ok(String::from_str(alloc, "ok ended")?),
+        Reply::Resyncing {
+            transfer,
+            common,
+            legs,
+        } => Ok(format!(in alloc; "ok transfer={transfer} common={common} legs={legs}")?),
         Reply::Bytes { block } => text_of_bytes(alloc, &block.0),
         Reply::Line(line) => text_of_line(alloc, line),
+        Reply::Table(lines) => text_of_table(alloc, &lines.lines),
+        Reply::Reverted { relation, dropped } => {
+            let went = text_of_dropped(alloc, *relation, *dropped)?;
+            Ok(format!(in alloc; "revert{went}")?)
+        }
+        Reply::Prepared { relation, ident } => {
+            let number = relation.0;
+            Ok(format!(in alloc; "prepare relationship={number} id={ident}")?)
+        }
+        Reply::Pruned { relation, dropped } => {
+            let went = text_of_dropped(alloc, *relation, *dropped)?;
+            Ok(format!(in alloc; "prune{went}")?)
+        }
+        Reply::Shipped {
+            relation,
+            index,
+            cost,
+        } => {
+            let number = relation.0;
+            Ok(format!(in alloc; "ship relationship={number} index={index} cost={cost}")?)
+        }
+        Reply::Checked { relation, prefix } => {
+            let number = relation.0;
+            Ok(format!(in alloc; "checkpoint relationship={number} prefix={prefix}")?)
+        }
+        Reply::Published {
+            relation,
+            ident,
+            dropped,
+        } => {
+            let number = relation.0;
+            Ok(format!(in alloc; "publish relationship={number} id={ident} dropped={dropped}")?)
+        }
+        Reply::Settled {
+            relation,
+            base,
+            ended,
+        } => text_of_settled(alloc, *relation, *base, *ended),
+        Reply::Tidied { volume, dropped } => {
+            let number = volume.0;
+            Ok(format!(in alloc; "tidy volume={number} dropped={dropped}")?)
+        }
+        Reply::Interrupted { relation, reason } => {
+            let number = relation.0;
+            let why = text_of_reason(alloc, *reason)?;
+            Ok(format!(in alloc; "interrupted relationship={number} reason={why}")?)
+        }
+        Reply::Idle => Ok(String::from_str(alloc, "idle")?),
         Reply::Refused(refusal) => text_of_refusal(alloc, refusal),
+    }
+}
+
+/// The disk since whose failure the node is down, where the reply says that it is.
+#[tactic(auto, unfolding(crate::specs::Text::down_disk))]
+fn down_disk(reply: &Reply) -> Option<u32>
+    ensures { result ≡ disk_of_down reply.now }
+{
+    match reply {
+        Reply::Refused(Refusal::Down { disk }) => Some(disk.0),
+        Reply::Refused(Refusal::DiskFault { disk, .. }) => Some(disk.0),
+        _ => None,
+    }
+}
+
+/// What a report's event prints.
+fn text_of_report(alloc: Global, reply: &Reply) -> Result<String, NoMemory>
+    ensures { IfOk result (λ text. string_bytes text ≡ report_text reply.now) }
+{
+    match down_disk(reply) {
+        None => text_of_reply(alloc, reply),
+        Some(disk) => Ok(format!(in alloc; "report down disk={disk}")?),
+    }
+}
+
+/// What is printed of steps that are not shown: the one that ends them.
+#[tactic(auto, unfolding(crate::specs::Text::ends_settling))]
+fn end_of_settling(alloc: Global, reply: &Reply) -> Result<Option<String>, NoMemory>
+    ensures { IfOk result (λ text. option_map string_bytes text ≡ ends_settling reply.now) }
+{
+    match reply {
+        Reply::Idle => Ok(Some(String::from_str(alloc, "settled")?)),
+        Reply::Refused(Refusal::Down { .. }) => Ok(Some(text_of_reply(alloc, reply)?)),
+        Reply::Refused(Refusal::DiskFault { .. }) => Ok(Some(text_of_reply(alloc, reply)?)),
+        _ => Ok(None),
+    }
+}
+
+/// What is printed of an entry, if anything, without its line's number and its line end.
+#[tactic(auto, unfolding(crate::specs::Text::shown_text))]
+fn text_shown(alloc: Global, entry: &Entry) -> Result<Option<String>, NoMemory>
+    ensures { IfOk result (λ text. option_map string_bytes text ≡ shown_text entry.now.event entry.now.reply) }
+{
+    match &entry.event {
+        Event::Work { shown: false } => end_of_settling(alloc, &entry.reply),
+        Event::Head => Ok(Some(text_of_report(alloc, &entry.reply)?)),
+        Event::VolumeLine { .. } => Ok(Some(text_of_report(alloc, &entry.reply)?)),
+        Event::Digest { .. } => Ok(Some(text_of_report(alloc, &entry.reply)?)),
+        Event::RelationLine { .. } => Ok(Some(text_of_report(alloc, &entry.reply)?)),
+        _ => Ok(Some(text_of_reply(alloc, &entry.reply)?)),
+    }
+}
+
+/// A text with its line's number and its line end.
+fn numbered_text(alloc: Global, line: u32, text: &Option<String>) -> Result<String, NoMemory>
+    ensures { IfOk result (λ whole. string_bytes whole ≡ line_of_text line (option_map string_bytes text.now)) }
+{
+    match text {
+        None => Ok(String::new(alloc)),
+        Some(text) => {
+            if line == 0 {
+                Ok(format!(in alloc; "{text}\n")?)
+            } else {
+                Ok(format!(in alloc; "{line}: {text}\n")?)
+            }
+        }
     }
 }
 
@@ -66,13 +268,8 @@ pub fn add_entry(alloc: Global, entry: &Entry, out: &mut Vec<u8>) -> Result<(), 
     ensures ok { OnOk result (out.new.items ≡ out.old.items ++ entry_text entry.now) }
     ensures err { OnErr result (out.new.items ≡ out.old.items) }
 {
-    let reply = text_of_reply(alloc, &entry.reply)?;
-    let line = entry.line;
-    let text = if line == 0 {
-        format!(in alloc; "{reply}\n")?
-    } else {
-        format!(in alloc; "{line}: {reply}\n")?
-    };
+    let shown = text_shown(alloc, entry)?;
+    let text = numbered_text(alloc, entry.line, &shown)?;
     out.extend_from_slice(text.as_bytes())?;
     Ok(())
 }
