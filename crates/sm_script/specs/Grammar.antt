@@ -171,6 +171,4 @@ IsCommand (events.CreateVolume path disk kind logical physical) = Unit {0}
 IsCommand (events.Write path block fill) = Unit {0}
 IsCommand (events.Snap path name label) = Unit {0}
 IsCommand (events.Read path name block) = Unit {0}
-IsCommand events.Head = ⊥
-IsCommand (events.VolumeLine volume) = ⊥
-IsCommand (events.Digest volume place) = ⊥
+IsCommand _ = ⊥
