@@ -50,13 +50,14 @@ fn text_of_bytes(alloc: Global, bytes: &[u8]) -> Result<String, NoMemory>
 fn lines_of_table(alloc: Global, lines: &[Line]) -> Result<String, NoMemory>
     ensures { IfOk result (λ text. string_bytes text ≡ table_lines lines.now) }
 {
-    let mut text = String::new(alloc);
-    for line in lines {
-        let words = text_of_line(alloc, line)?;
-        text.push_str("\n  ")?;
-        text.push_str(words.as_str())?;
+    match lines {
+        [] => Ok(String::new(alloc)),
+        [line, others @ ..] => {
+            let first = text_of_line(alloc, line)?;
+            let more = lines_of_table(alloc, others)?;
+            Ok(format!(in alloc; "\n  {first}{more}")?)
+        }
     }
-    Ok(text)
 }
 
 fn text_of_table(alloc: Global, lines: &[Line]) -> Result<String, NoMemory>
