@@ -8,11 +8,12 @@ ghost use Rattle.sm_defs.specs.Pruning.{is_pruned, pruned};
 ghost use Rattle.sm_defs.specs.Common.{common};
 
 use crate::lists::{has_copy, has_rule_for, is_among, with_first};
-use crate::values::{PlainPolicy, PlainSnapshot};
+use crate::values::PlainSnapshot;
+use sm_model::WorldPolicy;
 use sm_base::{Ident, NoMemory};
 use std::alloc::Global;
 
-pub(crate) fn sends_all(policy: &PlainPolicy) -> bool
+pub(crate) fn sends_all(policy: &WorldPolicy) -> bool
     ensures { result ≡ sends_all policy.now }
 {
     has_rule_for(&policy.rules, b"all_source_snapshots")
@@ -21,7 +22,7 @@ pub(crate) fn sends_all(policy: &PlainPolicy) -> bool
 /// Whether pruning drops a snapshot: nobody needs it, and the source has no copy of it or the mirror
 /// does not keep it in step.
 pub fn is_pruned(
-    policy: &PlainPolicy,
+    policy: &WorldPolicy,
     needed: &[Ident],
     source: &[PlainSnapshot],
     snapshot: &PlainSnapshot,
@@ -35,7 +36,7 @@ pub fn is_pruned(
 /// What pruning drops of the destination's list.
 pub fn pruned(
     alloc: Global,
-    policy: &PlainPolicy,
+    policy: &WorldPolicy,
     needed: &[Ident],
     source: &[PlainSnapshot],
     destination: &[PlainSnapshot],

@@ -8,7 +8,8 @@ ghost use Rattle.sm_defs.specs.Relationship.{rule_for};
 ghost use Rattle.sm_defs.specs.Retention.{retained, with_kept, keeps, labelled, labels, keeps_by_rule, keep_reached, is_reached};
 
 use crate::lists::{is_among, same_text, with_first};
-use crate::values::{PlainRule, PlainSnapshot};
+use crate::values::PlainSnapshot;
+use sm_model::WorldRule;
 use sm_base::{Ident, Label, NoMemory};
 use std::alloc::Global;
 
@@ -55,7 +56,7 @@ fn count_snapshots(snapshots: &[PlainSnapshot], text: &[u8]) -> usize
     }
 }
 
-fn rule_keeps(rules: &[PlainRule], text: &[u8], newer: usize) -> bool
+fn rule_keeps(rules: &[WorldRule], text: &[u8], newer: usize) -> bool
     ensures { result ≡ keeps_by_rule (rule_for rules.now (Some text.now)) newer }
 {
     match rules {
@@ -70,7 +71,7 @@ fn rule_keeps(rules: &[PlainRule], text: &[u8], newer: usize) -> bool
     }
 }
 
-fn has_room(rules: &[PlainRule], label: &Option<Label>, kept: &[PlainSnapshot]) -> bool
+fn has_room(rules: &[WorldRule], label: &Option<Label>, kept: &[PlainSnapshot]) -> bool
     ensures { result ≡ keeps_by_rule (rule_for rules.now label.now) (labelled label.now (labels kept.now)) }
 {
     match label {
@@ -83,7 +84,7 @@ fn has_room(rules: &[PlainRule], label: &Option<Label>, kept: &[PlainSnapshot]) 
 }
 
 fn stays(
-    rules: &[PlainRule],
+    rules: &[WorldRule],
     needed: &[Ident],
     snapshot: &PlainSnapshot,
     kept: &[PlainSnapshot],
@@ -95,7 +96,7 @@ fn stays(
 
 fn settled(
     alloc: Global,
-    rules: &[PlainRule],
+    rules: &[WorldRule],
     needed: &[Ident],
     snapshot: &PlainSnapshot,
     kept: Vec<PlainSnapshot>,
@@ -113,7 +114,7 @@ fn settled(
 /// newest ones of a label as its rule says, those counted that are kept for another reason.
 pub fn retained(
     alloc: Global,
-    rules: &[PlainRule],
+    rules: &[WorldRule],
     needed: &[Ident],
     snapshots: &[PlainSnapshot],
 ) -> Result<Vec<PlainSnapshot>, NoMemory>
@@ -128,7 +129,7 @@ pub fn retained(
     }
 }
 
-fn is_reached(rule: &PlainRule, there: &[Option<Label>], coming: &[Option<Label>]) -> bool
+fn is_reached(rule: &WorldRule, there: &[Option<Label>], coming: &[Option<Label>]) -> bool
     ensures { result ≡ is_reached there.now coming.now rule.now }
 {
     let text = rule.label.text();
@@ -138,10 +139,10 @@ fn is_reached(rule: &PlainRule, there: &[Option<Label>], coming: &[Option<Label>
 
 /// The first rule that preserves and keeps fewer than there are and would come together.
 pub fn keep_reached<'a>(
-    rules: &'a [PlainRule],
+    rules: &'a [WorldRule],
     there: &[Option<Label>],
     coming: &[Option<Label>],
-) -> Option<&'a PlainRule>
+) -> Option<&'a WorldRule>
     ensures { MatchOption result (keep_reached rules.now there.now coming.now ≡ None) (λ rule. keep_reached rules.now there.now coming.now ≡ Some rule.now) }
 {
     match rules {

@@ -20,6 +20,4 @@ pub use keeping::{keep_reached, retained};
 pub use landing::vault_landing;
 pub use missing::{mirror_cost, missing_places, missing_tags, vault_cost};
 pub use sending::{candidates, legs};
-pub use values::{
-    PlainBases, PlainBlock, PlainLegs, PlainPolicy, PlainRule, PlainSnapshot, PlainSource,
-};
+pub use values::{PlainBases, PlainBlock, PlainLegs, PlainSnapshot, PlainSource, copy_image};

@@ -7,7 +7,8 @@ ghost use Rattle.sm_defs.specs.Volume.{has};
 ghost use Rattle.sm_defs.specs.Relationship.{rule_for};
 ghost use Rattle.sm_defs.specs.Missing.{rest, first_tag};
 
-use crate::values::{PlainBlock, PlainRule, PlainSnapshot};
+use crate::values::{PlainBlock, PlainSnapshot};
+use sm_model::WorldRule;
 use sm_base::{Ident, NoMemory};
 
 pub(crate) fn same_text(one: &[u8], other: &[u8]) -> bool
@@ -40,7 +41,7 @@ pub(crate) fn is_among(idents: &[Ident], ident: Ident) -> bool
     }
 }
 
-pub(crate) fn has_rule_for(rules: &[PlainRule], label: &[u8]) -> bool
+pub(crate) fn has_rule_for(rules: &[WorldRule], label: &[u8]) -> bool
     ensures { result ≡ is_some (rule_for rules.now (Some label.now)) }
 {
     match rules {

@@ -10,8 +10,9 @@ ghost use Rattle.sm_defs.specs.Legs.{after_base, candidates, only_newest, has_ru
 
 use crate::dropping::sends_all;
 use crate::lists::{has_copy, has_rule_for, is_same, with_first};
-use crate::values::{PlainLegs, PlainPolicy, PlainRule, PlainSnapshot, PlainSource};
+use crate::values::{PlainLegs, PlainSnapshot, PlainSource};
 use sm_base::{Ident, Kind, Label, NoMemory, PolicyKind};
+use sm_model::{WorldPolicy, WorldRule};
 use std::alloc::Global;
 
 fn behind(snapshots: &[PlainSnapshot], base: Ident) -> &[PlainSnapshot]
@@ -99,7 +100,7 @@ fn newest_of(snapshots: &[PlainSnapshot]) -> &[PlainSnapshot]
     }
 }
 
-fn has_rule(rules: &[PlainRule], label: &Option<Label>) -> bool
+fn has_rule(rules: &[WorldRule], label: &Option<Label>) -> bool
     ensures { result ≡ is_some (rule_for rules.now label.now) }
 {
     match label {
@@ -110,7 +111,7 @@ fn has_rule(rules: &[PlainRule], label: &Option<Label>) -> bool
 
 fn ruled_idents(
     alloc: Global,
-    rules: &[PlainRule],
+    rules: &[WorldRule],
     snapshots: &[PlainSnapshot],
 ) -> Result<Vec<Ident>, NoMemory>
     ensures { IfOk result (λ all. all.items ≡ idents (filter (has_rule rules.now) snapshots.now)) }
@@ -163,7 +164,7 @@ fn of_mirror(
 pub fn legs(
     alloc: Global,
     transfer: u64,
-    policy: &PlainPolicy,
+    policy: &WorldPolicy,
     base: Option<Ident>,
     source: &PlainSource,
     destination: &[PlainSnapshot],

@@ -1,9 +1,10 @@
 use crate::{
-    PlainBases, PlainBlock, PlainPolicy, PlainRule, PlainSnapshot, PlainSource, candidates, common,
+    PlainBases, PlainBlock, PlainSnapshot, PlainSource, candidates, common,
     is_pruned, keep_reached, legs, mirror_cost, missing_places, missing_tags, pruned, retained,
     vault_cost, vault_landing,
 };
 use sm_base::{Ident, Kind, Label, Path1, PolicyKind, SnapName};
+use sm_model::{WorldPolicy, WorldRule};
 use std::alloc::Global;
 use std::process::Abort;
 use std::test::Fail;
@@ -90,20 +91,20 @@ fn numbers_of(alloc: Global, idents: &[Ident]) -> Result<Vec<u64>, Fail> {
     Ok(seqs)
 }
 
-fn rule(alloc: Global, text: &[u8], keep: u32, preserve: bool) -> Result<PlainRule, Fail> {
-    Ok(PlainRule {
+fn rule(alloc: Global, text: &[u8], keep: u32, preserve: bool) -> Result<WorldRule, Fail> {
+    Ok(WorldRule {
         label: Label::read(alloc, text)?,
         keep,
         preserve,
     })
 }
 
-fn policy(alloc: Global, kind: PolicyKind, text: &[u8]) -> Result<PlainPolicy, Fail> {
+fn policy(alloc: Global, kind: PolicyKind, text: &[u8]) -> Result<WorldPolicy, Fail> {
     let mut rules = Vec::new(alloc);
     if !text.is_empty() {
         rules.push(rule(alloc, text, 1, false)?)?;
     }
-    Ok(PlainPolicy {
+    Ok(WorldPolicy {
         name: Path1::read(alloc, b"p")?,
         kind,
         rules,
@@ -203,7 +204,7 @@ fn a_vault_keeps_by_rules_and_needs(rt: HostRuntime) -> Result<(), Fail> {
 // A rule, what is needed, and which stay of four snapshots labelled d, not at all, d and d.
 fn retention_row(
     rt: &(impl Abort + AllocGlobal),
-    rule: PlainRule,
+    rule: WorldRule,
     needed: u64,
     stay: &[u64],
 ) -> Result<(), Fail> {
@@ -233,7 +234,7 @@ fn a_rule_that_preserves_has_a_limit(rt: HostRuntime) -> Result<(), Fail> {
 // A rule, the labels that are there and those that would come, and whether the rule is named.
 fn limit_row(
     rt: &(impl Abort + AllocGlobal),
-    rule: PlainRule,
+    rule: WorldRule,
     there: &[u8],
     coming: &[u8],
     reached: bool,
@@ -316,7 +317,7 @@ fn what_a_transfer_sends(rt: HostRuntime) -> Result<(), Fail> {
 // the second.
 fn legs_row(
     rt: &(impl Abort + AllocGlobal),
-    policy: &PlainPolicy,
+    policy: &WorldPolicy,
     kind: Kind,
     base: Option<Ident>,
     sent: &[u64],

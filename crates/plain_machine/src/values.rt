@@ -1,7 +1,8 @@
-// Blocks, snapshots and rules as lists and numbers.
+// Blocks and snapshots with their bytes.
 ghost use Rattle.std.specs.Prelude.{◌≡◌, IfOk};
 
-use sm_base::{Ident, Kind, Label, NoMemory, Path1, PolicyKind, SnapName};
+use sm_base::{Ident, Kind, Label, NoMemory, SnapName};
+use sm_model::copy_label;
 use std::alloc::Global;
 use std::marker::Model;
 
@@ -38,38 +39,6 @@ impl Model for PlainSnapshot {
     ghost Value = { Snapshot };
 
     ghost view = { λ s. record { ident = s.ident; name = s.name; label = s.label; time = s.time; maker = s.maker; image = s.image.items } };
-}
-
-/// How many snapshots of a label a vault keeps.
-#[derive(Debug, Drop)]
-pub struct PlainRule {
-    pub label: Label,
-    pub keep: u32,
-    pub preserve: bool,
-}
-
-impl Model for PlainRule {
-    ghost use Rattle.sm_defs.specs.Relationship.{Rule};
-
-    ghost Value = { Rule };
-
-    ghost view = { λ r. record { label = r.label; keep = r.keep; preserve = r.preserve } };
-}
-
-/// A policy with its rules.
-#[derive(Debug, Drop)]
-pub struct PlainPolicy {
-    pub name: Path1,
-    pub kind: PolicyKind,
-    pub rules: Vec<PlainRule>,
-}
-
-impl Model for PlainPolicy {
-    ghost use Rattle.sm_defs.specs.Relationship.{Policy};
-
-    ghost Value = { Policy };
-
-    ghost view = { λ p. record { name = p.name; kind = p.kind; rules = p.rules.items } };
 }
 
 /// What a volume shows to a transfer from it.
@@ -146,16 +115,8 @@ impl PlainSnapshot {
     }
 }
 
-fn copy_label(alloc: Global, label: &Option<Label>) -> Result<Option<Label>, NoMemory>
-    ensures { IfOk result (λ copy. copy ≡ label.now) }
-{
-    match label {
-        None => Ok(None),
-        Some(label) => Ok(Some(label.copy(alloc)?)),
-    }
-}
-
-fn copy_image(alloc: Global, image: &[PlainBlock]) -> Result<Vec<PlainBlock>, NoMemory>
+/// The same image.
+pub fn copy_image(alloc: Global, image: &[PlainBlock]) -> Result<Vec<PlainBlock>, NoMemory>
     ensures { IfOk result (λ copy. copy.items ≡ image.now) }
 {
     let mut copy = Vec::new(alloc);

@@ -1,0 +1,80 @@
+// A world with whole images, and why a plain function gives no answer.
+use plain_machine::{PlainBlock, PlainSnapshot};
+use sm_base::{DiskNo, Kind, NoMemory, Path};
+use sm_model::{WorldPolicy, WorldRelation};
+use std::alloc::{AllocError, AllocFailed};
+use std::marker::Model;
+
+/// A volume with whole images; sizes are in blocks.
+#[derive(Debug, Drop)]
+pub struct PlainVolume {
+    pub path: Path,
+    pub disk: DiskNo,
+    pub kind: Kind,
+    pub family: u64,
+    pub logical: u32,
+    pub physical: u32,
+    /// The number of the next snapshot that a client takes, from 1.
+    pub next: u64,
+    pub active: Vec<PlainBlock>,
+    pub stable: Vec<PlainBlock>,
+    /// Oldest first.
+    pub snapshots: Vec<PlainSnapshot>,
+}
+
+impl Model for PlainVolume {
+    ghost use Rattle.sm_defs.specs.Volume.{Volume};
+
+    ghost Value = { Volume };
+
+    ghost view = { λ v. record { path = v.path; disk = v.disk.0; kind = v.kind; family = v.family; logical = v.logical; physical = v.physical; next = v.next; active = v.active.items; stable = v.stable.items; snapshots = v.snapshots.items } };
+}
+
+/// All that stands while the node is up. `disks` has the length of each disk, in bytes, by its number.
+#[derive(Debug, Drop)]
+pub struct PlainWorld {
+    /// In seconds since 1970.
+    pub clock: u64,
+    pub next_relation: u32,
+    pub next_transfer: u64,
+    pub volumes: Vec<PlainVolume>,
+    pub policies: Vec<WorldPolicy>,
+    /// In the order of their numbers.
+    pub relations: Vec<WorldRelation>,
+    pub disks: Vec<u64>,
+}
+
+impl Model for PlainWorld {
+    ghost use Rattle.sm_defs.specs.World.{Up};
+
+    ghost Value = { Up };
+
+    ghost view = { λ w. record { clock = w.clock; next_relation = w.next_relation; next_transfer = w.next_transfer; volumes = w.volumes.items; policies = w.policies.items; relations = w.relations.items; disks = w.disks.items } };
+}
+
+/// Why a plain function gives no answer.
+#[derive(Clone, Copy, Debug, PartialEq, Eq)]
+pub enum PlainFault {
+    /// There is no memory left for this call.
+    NoMemory,
+    /// A number of the world is greater than what a reply, a list or a name can hold.
+    TooGreat,
+}
+
+impl From<NoMemory> for PlainFault {
+    fn from(_: NoMemory) -> PlainFault {
+        PlainFault::NoMemory
+    }
+}
+
+impl From<AllocError> for PlainFault {
+    fn from(_: AllocError) -> PlainFault {
+        PlainFault::NoMemory
+    }
+}
+
+impl<T: Drop> From<AllocFailed<T>> for PlainFault {
+    fn from(_: AllocFailed<T>) -> PlainFault {
+        PlainFault::NoMemory
+    }
+}
