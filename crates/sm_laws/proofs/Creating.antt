@@ -1,8 +1,9 @@
 -- What holds of a new volume.
-use Rattle.std.proofs.Common.{◌≡◌, ◌==◌, ℕ, false, List, length, refl, inl, inr}
+use Rattle.std.proofs.Common.{◌≡◌, ◌==◌, ◌<◌, ℕ, false, List, [], ◌∷◌, ◌++◌, length, refl, inl, inr, arith}
 use Rattle.std.specs.Str.{bytes_eq}
 use Rattle.std.specs.List.{list_any}
 use Rattle.std.proofs.lemmas.Bool.{ltb-true}
+use Rattle.std.proofs.lemmas.List.{length-append}
 use Rattle.sm_base.specs.declared.numbers.Ident.{Ident}
 use Rattle.sm_base.specs.declared.numbers.DiskNo.{DiskNo}
 use Rattle.sm_base.specs.declared.numbers.Kind.{Kind}
@@ -17,13 +18,15 @@ use Rattle.sm_model.specs.Answers.{told, volno}
 use Rattle.sm_model.specs.InRange.{IsGiven, IsCreation}
 use Rattle.sm_model.specs.OfVolumes.{create_volume, with_new_volume, length_needed}
 use Rattle.sm_model.specs.World.{Deed}
-use Rattle.sm_model.specs.Standing.{Stands}
+use Rattle.sm_model.specs.Standing.{Stands, EachVolume}
 use Rattle.sm_model.specs.Formed.{Formed}
 use Rattle.sm_model.specs.TagsFit.{TagsFit, TagsFitIn}
-use Rattle.sm_model.specs.DestinationsStand.{DestinationsStand, StandsAtSnapshot}
-use Rattle.sm_model.specs.NumbersStand.{NumbersStand, NumberStands}
+use Rattle.sm_model.specs.DestinationsStand.{StandsAtSnapshot}
+use Rattle.sm_model.specs.NumbersStand.{NumberStands}
+use Rattle.sm_model.specs.FamiliesStand.{IsFamily}
 use Rattle.sm_model.specs.Sound.{SoundUp}
 use Rattle.sm_model.specs.Drops.{NamedFor}
+use Rattle.sm_laws.specs.Early.{IsBare}
 use Rattle.sm_laws.specs.Listed.{IsListed}
 use Rattle.sm_laws.proofs.Tests.{no_such_path, no_such_disk, below_bound}
 use Rattle.sm_laws.proofs.Walk.{Ends, past, with_found, now}
@@ -31,9 +34,13 @@ use Rattle.sm_laws.proofs.Frames.{each_push, stands_push}
 use Rattle.sm_laws.proofs.Shapes.{formed_push, formed_new, new_fits, new_stored}
 use Rattle.sm_laws.proofs.Copies.{ComesFrom, stays, copies_come}
 use Rattle.sm_laws.proofs.Families.{ComesInFamily, stays_in_family, families_come}
-use Rattle.sm_laws.proofs.Given.{Grown, grown_push, number_grows}
+use Rattle.sm_laws.proofs.Given.{Grown, grown_push, number_grows, family_grows}
+use Rattle.sm_laws.proofs.Bare.{sound_if_bare}
 use Rattle.sm_laws.proofs.Keeping.{KeepsAll, keeps_push}
 use Rattle.sm_laws.proofs.Lawful.{DoesLawfully, IsLawful, deed, unmade, created_makes_nothing}
+
+pushed_within : (vs : List Volume) (v : Volume) → length vs < length (vs ++ v ∷ [])
+pushed_within vs v = let e = length-append vs (v ∷ []) in omega arith
 
 -- the volume may be made
 pub record MayCreate (w : Up) (path : List ℕ) (disk : ℕ) : Type 0 where
@@ -69,33 +76,41 @@ module _ (w : Up) (path : List ℕ) (disk : DiskNo) (kind : Kind) (logical physi
   unfolding made
   blank = record { blank = λ _. new_stored path disk.0 kind (length w.volumes) logical physical; still = λ n. absurd (n refl); at = λ n. absurd (n refl) }
 
-  destinations : DestinationsStand w → DestinationsStand new
+  destinations : EachVolume (λ v. v.kind ≡ Dp → StandsAtSnapshot v) w → EachVolume (λ v. v.kind ≡ Dp → StandsAtSnapshot v) new
   unfolding new made
-  destinations h = record { volumes = each_push (λ v. v.kind ≡ Dp → StandsAtSnapshot v) w.volumes (new_volume path disk.0 kind (length w.volumes) logical physical) h.volumes (λ _. blank) }
+  destinations h = each_push (λ v. v.kind ≡ Dp → StandsAtSnapshot v) w.volumes (new_volume path disk.0 kind (length w.volumes) logical physical) h (λ _. blank)
 
   grown : Grown w new
   unfolding new
   grown = grown_push w (new_volume path disk.0 kind (length w.volumes) logical physical)
 
-  numbers : NumbersStand w → NumbersStand new
+  numbers : ((u : Volume) (s : Snapshot) → Stands w u s → NumberStands w s) → (u : Volume) (s : Snapshot) → Stands new u s → NumberStands new s
   unfolding new
-  numbers h = record {
-    snapshots = stands_push (λ _ s. NumberStands new s) w (new_volume path disk.0 kind (length w.volumes) logical physical) (λ s n. absurd n) (λ u s n. number_grows grown (h.snapshots u s n));
-  }
+  numbers h = stands_push (λ _ s. NumberStands new s) w (new_volume path disk.0 kind (length w.volumes) logical physical) (λ s n. absurd n) (λ u s n. number_grows grown refl (h u s n))
 
-  sound : SoundUp w → IsCreation path disk.0 logical physical → SoundUp new
-  sound h g = record {
+  in_families : EachVolume (λ u. IsFamily w u.family) w → EachVolume (λ u. IsFamily new u.family) new
+  unfolding new
+  in_families h = each_push (λ u. IsFamily new u.family) w.volumes (new_volume path disk.0 kind (length w.volumes) logical physical)
+      (λ u k. family_grows grown (h u k)) (inl (pushed_within w.volumes (new_volume path disk.0 kind (length w.volumes) logical physical)))
+
+  bare : IsBare w → IsBare new
+  unfolding new
+  bare b = record { relations = b.relations; policies = b.policies }
+
+  sound : SoundUp w → IsBare w → IsCreation path disk.0 logical physical → SoundUp new
+  sound h b g = sound_if_bare new (bare b) (record {
     formed = formed g h.formed;
     tags_fit = tags h.tags_fit;
     copies_agree = copies_come w new copies h.copies_agree;
     families_agree = families_come w new families h.families_agree;
-    destinations_stand = destinations h.destinations_stand;
-    numbers_stand = numbers h.numbers_stand;
-  }
+    destinations = destinations h.destinations_stand.volumes;
+    numbers = numbers h.numbers_stand.snapshots;
+    families = in_families h.families_stand.given;
+  })
 
-  sound_given : SoundUp w → IsGiven (events.CreateVolume path disk kind logical physical) → SoundUp new
+  sound_given : SoundUp w → IsBare w → IsGiven (events.CreateVolume path disk kind logical physical) → SoundUp new
   unfolding IsGiven
-  sound_given h g = sound h g
+  sound_given h b g = sound h b g
 
   keeps : KeepsAll w new
   unfolding new
@@ -106,7 +121,7 @@ module _ (w : Up) (path : List ℕ) (disk : DiskNo) (kind : Kind) (logical physi
   none_named d u i h = h
 
   lawful : (actor : ℕ) (reply : Reply) → reply ≡ replies.Created (volno (length w.volumes)) → IsLawful (deed actor w (events.CreateVolume path disk kind logical physical) reply new)
-  lawful actor reply e = unmade actor w (events.CreateVolume path disk kind logical physical) reply new sound_given grown copies keeps
+  lawful actor reply e = unmade actor w (events.CreateVolume path disk kind logical physical) reply new sound_given bare grown copies keeps
       (created_makes_nothing reply (volno (length w.volumes)) e) (λ r f. cc) none_named
 
   does : DoesLawfully w (events.CreateVolume path disk kind logical physical)

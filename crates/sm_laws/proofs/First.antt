@@ -14,7 +14,7 @@ use Rattle.sm_model.specs.OfVolumes.{length_needed, with_new_volume}
 
 pub first_volume : (disks : List ℕ) (path : List ℕ) (disk : DiskNo) (kind : Kind) (logical physical len : ℕ) → 1 ≤ disk.0 → slice_get disks disk.0 ≡ Some len → length_needed physical ≤ len →
     answer (empty_world disks) (events.CreateVolume path disk kind logical physical) ≡
-    (replies.Created (volno 0) and with_new_volume (empty_world disks) (new_volume path disk.0 kind 0 logical physical))
+    Some (replies.Created (volno 0) and with_new_volume (empty_world disks) (new_volume path disk.0 kind 0 logical physical))
 unfolding answer and_then refused_if some_or
 first_volume disks path disk kind logical physical len some there long =
     let no_zero : (disk.0 == 0) ≡ false = ne_eqb disk.0 0 (λ e. omega arith) in

@@ -20,6 +20,7 @@ use Rattle.sm_model.specs.Standing.{Stands}
 use Rattle.sm_model.specs.Sound.{SoundUp}
 use Rattle.sm_model.specs.Drops.{Drops, NamedFor}
 use Rattle.sm_model.specs.Origin.{makes, made_by}
+use Rattle.sm_laws.specs.Early.{IsBare}
 use Rattle.sm_laws.proofs.Members.{same_is, is_same}
 use Rattle.sm_laws.proofs.Copies.{ComesFrom, AllCome, stays}
 use Rattle.sm_laws.proofs.Given.{Given, Grown, grown_same}
@@ -34,7 +35,8 @@ abbrev pub AllTraced : Up → List Deed → Up → Type 0
 AllTraced old ds new = (v : Volume) (s : Snapshot) → Stands new v s → Traced old ds s
 
 pub record IsLawful (d : Deed) : Type 0 where
-  pub sound : SoundUp d.old → IsGiven d.event → SoundUp d.new
+  pub sound : SoundUp d.old → IsBare d.old → IsGiven d.event → SoundUp d.new
+  pub bare : IsBare d.old → IsBare d.new
   pub grown : Grown d.old d.new
   pub traced : SoundUp d.old → AllTraced d.old (d ∷ []) d.new
   pub made_given : (i : Ident) → makes i d ≡ true → Given d.new i
@@ -93,10 +95,11 @@ pub find_only : (p : Deed → Bool) (d : Deed) → p d ≡ true → find p (d �
 find_only p d e = find_go p d (p d) e
 
 -- no identity is made, none goes, and the rules name none
-pub unmade : (actor : ℕ) (w : Up) (e : Event) (reply : Reply) (new : Up) → (SoundUp w → IsGiven e → SoundUp new) → Grown w new → AllCome w new → KeepsAll w new → made_by reply ≡ None →
+pub unmade : (actor : ℕ) (w : Up) (e : Event) (reply : Reply) (new : Up) → (SoundUp w → IsBare w → IsGiven e → SoundUp new) → (IsBare w → IsBare new) → Grown w new → AllCome w new → KeepsAll w new → made_by reply ≡ None →
     ((r : Refusal) → ¬ (reply ≡ replies.Refused r)) → ((d : Deed) (v : ℕ) (i : Ident) → ¬ NamedFor d e v i) → IsLawful (deed actor w e reply new)
-unmade actor w e reply new sound grown come keeps m n k = record {
+unmade actor w e reply new sound bare grown come keeps m n k = record {
   sound = sound;
+  bare = bare;
   grown = grown;
   traced = λ _ v s h. from_old (come v s h);
   made_given = λ i h. absurd (makes_nothing reply i m h);
@@ -109,4 +112,4 @@ unmade actor w e reply new sound grown come keeps m n k = record {
 -- nothing changes either
 pub quiet : (actor : ℕ) (w : Up) (e : Event) (reply : Reply) → made_by reply ≡ None → ((r : Refusal) → ¬ (reply ≡ replies.Refused r)) → ((d : Deed) (v : ℕ) (i : Ident) → ¬ NamedFor d e v i) →
     IsLawful (deed actor w e reply w)
-quiet actor w e reply m n k = unmade actor w e reply w (λ s _. s) (grown_same w) (stays w) (λ _ _ x. x) m n k
+quiet actor w e reply m n k = unmade actor w e reply w (λ s _ _. s) (λ b. b) (grown_same w) (stays w) (λ _ _ x. x) m n k

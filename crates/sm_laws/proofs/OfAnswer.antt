@@ -1,11 +1,12 @@
--- What holds of each answer: it is reached lawfully, or refused as listed.
-use Rattle.std.proofs.Common.{◌≡◌, Ok, Err}
+-- Each answer to an early event: it is reached lawfully, or refused as listed.
+use Rattle.std.proofs.Common.{◌≡◌, Some, Ok, Err, refl, sym, ◌∙◌}
+use Rattle.std.proofs.lemmas.Option.{same_Some}
 use Rattle.sm_base.specs.declared.refusal.Refusal.{Refusal}
 use Rattle.sm_defs.specs.World.{Up}
 use Rattle.sm_model.specs.declared.event.Event.{Event}
-use Rattle.sm_model.specs.declared.event.Event.TheVariants as events
-use Rattle.sm_model.specs.Answers.{Reached}
+use Rattle.sm_model.specs.Answers.{Answer, Reached}
 use Rattle.sm_model.specs.Answer.{answer}
+use Rattle.sm_laws.specs.Early.{IsEarly, creates, writes, snaps, reads, heads, lists, digests}
 use Rattle.sm_laws.specs.Listed.{IsListed}
 use Rattle.sm_laws.proofs.Walk.{Ends, from_ok, from_err}
 use Rattle.sm_laws.proofs.Lawful.{DoesLawfully}
@@ -15,18 +16,24 @@ use Rattle.sm_laws.proofs.Snapping.{of_snap}
 use Rattle.sm_laws.proofs.Reading.{of_read}
 use Rattle.sm_laws.proofs.Reporting.{of_head, of_volume_line, of_digest}
 
-pub of_answer : (w : Up) (e : Event) → Ends (DoesLawfully w e) (IsListed e) (answer w e)
+-- the world alone answers, lawfully or as listed
+record IsAnswered (w : Up) (e : Event) : Type 0 where
+  is : Answer
+  answers : answer w e ≡ Some is
+  ends : Ends (DoesLawfully w e) (IsListed e) is
+
+of_answer : (w : Up) {e : Event} → IsEarly e → IsAnswered w e
 unfolding answer
-of_answer w (events.CreateVolume path disk kind logical physical) = of_create w path disk kind logical physical
-of_answer w (events.Write path block fill) = of_write w path block fill
-of_answer w (events.Snap path name label) = of_snap w path name label
-of_answer w (events.Read path name block) = of_read w path name block
-of_answer w events.Head = of_head w
-of_answer w (events.VolumeLine volume) = of_volume_line w volume
-of_answer w (events.Digest volume place) = of_digest w volume place
+of_answer w (creates path disk kind logical physical) = record { is = _; answers = refl; ends = of_create w path disk kind logical physical }
+of_answer w (writes path block fill) = record { is = _; answers = refl; ends = of_write w path block fill }
+of_answer w (snaps path name label) = record { is = _; answers = refl; ends = of_snap w path name label }
+of_answer w (reads path name block) = record { is = _; answers = refl; ends = of_read w path name block }
+of_answer w heads = record { is = _; answers = refl; ends = of_head w }
+of_answer w (lists volume) = record { is = _; answers = refl; ends = of_volume_line w volume }
+of_answer w (digests volume place) = record { is = _; answers = refl; ends = of_digest w volume place }
 
-pub of_ok : (w : Up) (e : Event) (r : Reached) → answer w e ≡ Ok r → DoesLawfully w e r
-of_ok w e r = from_ok (DoesLawfully w e) (IsListed e) (answer w e) r (of_answer w e)
+pub of_ok : (w : Up) (e : Event) (r : Reached) → IsEarly e → answer w e ≡ Some (Ok r) → DoesLawfully w e r
+of_ok w e r y i = let a = of_answer w y in from_ok (DoesLawfully w e) (IsListed e) a.is r a.ends (same_Some a.is (Ok r) (sym a.answers ∙ i))
 
-pub of_refusal : (w : Up) (e : Event) (r : Refusal) → answer w e ≡ Err r → IsListed e r
-of_refusal w e r = from_err (DoesLawfully w e) (IsListed e) (answer w e) r (of_answer w e)
+pub of_refusal : (w : Up) (e : Event) (r : Refusal) → IsEarly e → answer w e ≡ Some (Err r) → IsListed e r
+of_refusal w e r y i = let a = of_answer w y in from_err (DoesLawfully w e) (IsListed e) a.is r a.ends (same_Some a.is (Err r) (sym a.answers ∙ i))

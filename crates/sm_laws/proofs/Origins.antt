@@ -5,24 +5,26 @@ use Rattle.std.proofs.lemmas.Bool.{false_from_ne_true, both_ways}
 use Rattle.std.proofs.lemmas.Option.{same_Some}
 use Rattle.sm_base.specs.declared.numbers.Ident.{Ident}
 use Rattle.sm_base.specs.declared.numbers.Side.{Side}
-use Rattle.sm_defs.specs.Words.{Among, same_ident}
+use Rattle.sm_defs.specs.Words.{Among, same_ident, or_else}
 use Rattle.sm_defs.specs.Image.{Image, SameContents}
 use Rattle.sm_defs.specs.Volume.{Volume, Snapshot}
 use Rattle.sm_defs.specs.World.{Up, volume_at}
 use Rattle.sm_model.specs.declared.reply.Entry.{Entry}
-use Rattle.sm_model.specs.World.{World, up, Deed}
+use Rattle.sm_model.specs.World.{World, up, down, Deed}
 use Rattle.sm_model.specs.Standing.{Stands}
 use Rattle.sm_model.specs.Sound.{SoundUp, Sound}
 use Rattle.sm_model.specs.CopiesAgree.{IsCopy, CopiesAgree}
 use Rattle.sm_model.specs.NumbersStand.{NumbersStand}
-use Rattle.sm_model.specs.Origin.{makes, or_next, lowest_copy, found_active, origin_from}
-use Rattle.sm_model.specs.LegalRun.{Fits, done, refused, Run}
+use Rattle.sm_model.specs.Origin.{makes, lowest_copy, found_active, origin_from}
+use Rattle.sm_model.specs.LegalRun.{Fits, done, quiet, failed, down_still, restart_up, restart_before, restart_after, restart_failed_up, restart_failed, Run}
+use Rattle.sm_laws.specs.Early.{IsEarly, AllEarly}
 use Rattle.sm_laws.specs.Laws.{HasOriginsContents}
 use Rattle.sm_laws.proofs.Members.{same_is, any_among, is_same}
 use Rattle.sm_laws.proofs.Copies.{copy_trans, stays}
 use Rattle.sm_laws.proofs.Given.{Given, Grown, grown_same, given_grows, number_given}
 use Rattle.sm_laws.proofs.Lawful.{IsLawful, Traced, from_old, from_deed, AllTraced}
-use Rattle.sm_laws.proofs.Soundness.{lawful_if_done, entry_keeps}
+use Rattle.sm_laws.proofs.Soundness.{lawful_if_early, SoundBare, is_sound, entry_keeps}
+use Rattle.sm_laws.proofs.Entries.{no_restart}
 
 -- ---- lists
 
@@ -79,9 +81,10 @@ joined old mid new ds later h grown made k v s m = go (k v s m)
     go (from_deed n d f e) = from_deed (λ g. n (given_grows grown g)) d
         (find_right (makes s.ident) ds later (false_from_ne_true (list_any (makes s.ident) ds) (λ q. n (made s.ident q))) ∙ f) e
 
--- the world itself
+-- the world itself; of one that is down, the world before
 abbrev pub present : World → Up
 present (up w) = w
+present (down disk d) = d.old
 
 only_go : (b : Bool) → (b || false) ≡ true → b ≡ true
 only_go true e = refl
@@ -99,20 +102,30 @@ leads_nowhere w = record { traced = λ v s h. from_old (stays w v s h); grown = 
 of_deed : (d : Deed) → IsLawful d → SoundUp d.old → Leads d.old (d ∷ []) d.new
 of_deed d l s = record { traced = l.traced s; grown = l.grown; given = λ i e. l.made_given i (only_go (makes i d) e) }
 
-pub of_entry : {old new : World} {e : Entry} {sides left : List Side} {ds : List Deed} → Fits old e sides ds new left → Sound old → Leads (present old) ds (present new)
-of_entry (done {w = w} {e = e} d o a b c i) s = subst (λ x. Leads x (d ∷ []) d.new) o (of_deed d (lawful_if_done w e.event d o b i) (subst SoundUp (sym o) s))
-of_entry (refused {w = w} i) s = leads_nowhere w
+stays_at : {w old : Up} → old ≡ w → Leads w [] old
+stays_at {w} {old} o = subst (λ x. Leads x [] old) o (leads_nowhere old)
+
+pub of_entry : {old new : World} {e : Entry} {sides left : List Side} {ds : List Deed} → Fits old e sides ds new left → IsEarly e.event → Sound old → Leads (present old) ds (present new)
+of_entry (done d o a b c i) y s = subst (λ x. Leads x (d ∷ []) d.new) o (of_deed d (lawful_if_early d y o b i) (subst SoundUp (sym o) s))
+of_entry (quiet {w = w} i) y s = leads_nowhere w
+of_entry (failed d disk count o a b i c k) y s = stays_at o
+of_entry (down_still {d = d} n k) y s = leads_nowhere d.old
+of_entry (restart_up side r k) y s = absurd (no_restart y r)
+of_entry (restart_before r k) y s = absurd (no_restart y r)
+of_entry (restart_after r k) y s = absurd (no_restart y r)
+of_entry (restart_failed_up disk count r k) y s = absurd (no_restart y r)
+of_entry (restart_failed disk count r k) y s = absurd (no_restart y r)
 
 -- a run
-pub of_run : (old new : World) (es : List Entry) (sides : List Side) (ds : List Deed) → Run old es sides ds new → Sound old → AllTraced (present old) ds (present new)
-of_run old new [] sides ds (a, b, c) s = rw (b, c) ((leads_nowhere (present old)).traced)
-of_run old new (e ∷ es) sides ds (first, later, left, mid, asked, f, r, q) s =
-    let l = of_entry f s in
-    rw q (joined (present old) (present mid) (present new) first later l.traced l.grown l.given (of_run mid new es left later r (entry_keeps f asked s)))
+pub of_run : (old new : World) (es : List Entry) (sides : List Side) (ds : List Deed) → AllEarly es → Run old es sides ds new → SoundBare old → AllTraced (present old) ds (present new)
+of_run old new [] sides ds y (a, b, c) s = rw (b, c) ((leads_nowhere (present old)).traced)
+of_run old new (e ∷ es) sides ds y (first, later, left, mid, asked, f, r, q) s =
+    let l = of_entry f y.0 (is_sound old s) in
+    rw q (joined (present old) (present mid) (present new) first later l.traced l.grown l.given (of_run mid new es left later y.1 r (entry_keeps f y.0 asked s)))
 
 -- ---- from a sound start
 
-lowest_go : (v : Volume) (vs : List Volume) (i : Ident) (u : Snapshot) (o q : Option Snapshot) → find (λ s. same_ident s.ident i) v.snapshots ≡ o → or_next o q ≡ Some u →
+lowest_go : (v : Volume) (vs : List Volume) (i : Ident) (u : Snapshot) (o q : Option Snapshot) → find (λ s. same_ident s.ident i) v.snapshots ≡ o → or_else o q ≡ Some u →
     (q ≡ Some u → (z : Volume) × Among vs z × Among z.snapshots u × (u.ident ≡ i)) → (z : Volume) × Among (v ∷ vs) z × Among z.snapshots u × (u.ident ≡ i)
 lowest_go v vs i u (Some x) q f e h = let p = find_is (λ s. same_ident s.ident i) v.snapshots u (f ∙ e) in (v, inl refl, p.0, same_is u.ident i p.1)
 lowest_go v vs i u None q f e h = let (z, m, n, p) = h e in (z, inr m, n, p)
@@ -121,7 +134,7 @@ lowest_is : (i : Ident) (vs : List Volume) (u : Snapshot) → lowest_copy i vs �
 lowest_is i [] u e = absurd (cc)
 lowest_is i (v ∷ vs) u e = lowest_go v vs i u _ (lowest_copy i vs) refl e (lowest_is i vs u)
 
-none_both : (o q : Option Snapshot) → or_next o q ≡ None → (o ≡ None) × (q ≡ None)
+none_both : (o q : Option Snapshot) → or_else o q ≡ None → (o ≡ None) × (q ≡ None)
 none_both None q e = (refl, e)
 none_both (Some x) q e = absurd (cc)
 

@@ -1,13 +1,14 @@
 -- The report asks for what stands.
-use Rattle.std.proofs.Common.{◌≡◌, ◌⊎◌, ◌<◌, ℕ, suc, List, [], ◌∷◌, ◌++◌, length, Some, None, refl, sym, ap, subst, ◌∙◌, inl, inr, arith, append_assoc}
+use Rattle.std.proofs.Common.{◌≡◌, ◌⊎◌, ◌<◌, ℕ, suc, List, [], ◌∷◌, ◌++◌, length, map, Some, None, refl, sym, ap, subst, ◌∙◌, inl, inr, arith, append_assoc}
 use Rattle.std.proofs.lemmas.List.{length-append, get_or_at}
 use Rattle.sm_defs.specs.Words.{Among}
 use Rattle.sm_defs.specs.Volume.{Volume, no_volume, numbers}
+use Rattle.sm_defs.specs.Relationship.{Relationship}
 use Rattle.sm_defs.specs.World.{Up, volume_at}
 use Rattle.sm_model.specs.declared.event.Event.{Event}
 use Rattle.sm_model.specs.declared.event.Event.TheVariants as events
 use Rattle.sm_model.specs.Answers.{volno}
-use Rattle.sm_model.specs.Asked.{events_of_volume, events_of_volumes, report_events}
+use Rattle.sm_model.specs.Asked.{events_of_volume, events_of_volumes, event_of_relation, report_events}
 use Rattle.sm_model.specs.InRange.{IsGiven, IsThere}
 use Rattle.sm_model.specs.World.{up}
 use Rattle.sm_model.specs.LegalRun.{IsAsked}
@@ -25,6 +26,10 @@ active_asked w i h = (tt, (h, tt))
 snapshot_asked : (w : Up) (i k : ℕ) → i < length w.volumes → k < length (volume_at w i).snapshots → IsAsked (up w) (events.Digest (volno i) (Some k))
 unfolding IsGiven IsThere
 snapshot_asked w i k h l = (tt, (h, l))
+
+relation_asked : (w : Up) (r : Relationship) → Among w.relations r → IsAsked (up w) (event_of_relation r)
+unfolding IsGiven IsThere
+relation_asked w r m = (tt, (r, m, refl))
 
 volume_asked : (w : Up) (i : ℕ) (v : Volume) (e : Event) → i < length w.volumes → volume_at w i ≡ v → Among (events_of_volume i v) e → IsAsked (up w) e
 volume_asked w i v e h s (inl k) = subst (IsAsked (up w)) (sym k) (line_asked w i h)
@@ -53,8 +58,12 @@ module _ (w : Up) (e : Event) where
       (volumes_asked (past ++ v ∷ []) rest (suc i) (s ∙ sym (append_assoc past (v ∷ []) rest)) (let n = length-append past (v ∷ []) in omega (arith, n, l)))
       (among_append (events_of_volume i v) (events_of_volumes (suc i) rest) e m)
 
+  rest_asked : Among (events_of_volumes 0 w.volumes) e ⊎ Among (map event_of_relation w.relations) e → IsAsked (up w) e
+  rest_asked (inl m) = volumes_asked [] w.volumes 0 refl refl m
+  rest_asked (inr m) = let (r, k, q) = from_map event_of_relation w.relations e m in subst (IsAsked (up w)) (sym q) (relation_asked w r k)
+
   -- each event of the report can be asked for
   pub report_asked : Among (report_events w) e → IsAsked (up w) e
   unfolding IsGiven IsThere
   report_asked (inl k) = subst (IsAsked (up w)) (sym k) (tt, tt)
-  report_asked (inr m) = volumes_asked [] w.volumes 0 refl refl m
+  report_asked (inr m) = rest_asked (among_append (events_of_volumes 0 w.volumes) (map event_of_relation w.relations) e m)

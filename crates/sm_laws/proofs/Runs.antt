@@ -1,9 +1,10 @@
 -- How legal runs are put together and taken apart.
 use Rattle.std.proofs.Common.{◌≡◌, List, [], ◌∷◌, ◌++◌, refl, sym, ap, subst, ◌∙◌, append_assoc}
 use Rattle.sm_base.specs.declared.numbers.Side.{Side}
+use Rattle.sm_base.specs.declared.numbers.Side.TheVariants.{Before, After}
 use Rattle.sm_model.specs.declared.reply.Entry.{Entry}
 use Rattle.sm_model.specs.World.{World, Deed}
-use Rattle.sm_model.specs.LegalRun.{Fits, done, refused, IsAsked, Run}
+use Rattle.sm_model.specs.LegalRun.{Fits, done, quiet, failed, down_still, restart_up, restart_before, restart_after, restart_failed_up, restart_failed, IsAsked, Run}
 
 pub append_nil : {X : Type 0} (xs : List X) → xs ++ [] ≡ xs
 append_nil [] = refl
@@ -12,7 +13,14 @@ append_nil (x ∷ xs) = ap (λ ys. x ∷ ys) (append_nil xs)
 -- further sides stay behind those that an entry takes
 pub fits_before : {w new : World} {e : Entry} {sides left : List Side} {ds : List Deed} (more : List Side) → Fits w e sides ds new left → Fits w e (sides ++ more) ds new (left ++ more)
 fits_before more (done d o a b c i) = done d o a b c i
-fits_before more (refused i) = refused i
+fits_before more (quiet i) = quiet i
+fits_before more (failed d disk count o a b i c e) = failed d disk count o a b i c e
+fits_before more (down_still n e) = down_still n e
+fits_before more (restart_up side r e) = restart_up side r e
+fits_before more (restart_before r e) = restart_before r e
+fits_before more (restart_after r e) = restart_after r e
+fits_before more (restart_failed_up disk count r e) = restart_failed_up disk count r e
+fits_before more (restart_failed disk count r e) = restart_failed disk count r e
 
 pub nil : (w : World) → Run w [] [] [] w
 nil w = (refl, refl, refl)
@@ -54,7 +62,14 @@ pub record Taking (w new : World) (e : Entry) (sides left : List Side) (ds : Lis
 
 pub taking : {w new : World} {e : Entry} {sides left : List Side} {ds : List Deed} → Fits w e sides ds new left → Taking w new e sides left ds
 taking (done d o a b c i) = record { taken = []; sides_are = refl; fits = done d o a b c i }
-taking (refused i) = record { taken = []; sides_are = refl; fits = refused i }
+taking (quiet i) = record { taken = []; sides_are = refl; fits = quiet i }
+taking (failed d disk count o a b i c e) = record { taken = []; sides_are = refl; fits = failed d disk count o a b i c e }
+taking (down_still n e) = record { taken = []; sides_are = refl; fits = down_still n e }
+taking (restart_up side r e) = record { taken = side ∷ []; sides_are = refl; fits = restart_up side r e }
+taking (restart_before r e) = record { taken = Before ∷ []; sides_are = refl; fits = restart_before r e }
+taking (restart_after r e) = record { taken = After ∷ []; sides_are = refl; fits = restart_after r e }
+taking (restart_failed_up disk count r e) = record { taken = []; sides_are = refl; fits = restart_failed_up disk count r e }
+taking (restart_failed disk count r e) = record { taken = []; sides_are = refl; fits = restart_failed disk count r e }
 
 -- where a run is cut in two
 pub record Cut (old new : World) (front back : List Entry) (sides : List Side) (ds : List Deed) : Type 0 where

@@ -29,6 +29,15 @@ formed_set w p f u is same_path same_disk h k = record {
   few = rw (length-set w.volumes f.at u) h.few;
   paths_differ = differ_set path_of w.volumes f.at u (λ x. key_stays path_of (slice_get w.volumes f.at) f.item x u (get_found p w.volumes f is) same_path) h.paths_differ;
   disks_differ = differ_set disk_of w.volumes f.at u (λ x. key_stays disk_of (slice_get w.volumes f.at) f.item x u (get_found p w.volumes f is) same_disk) h.disks_differ;
+  policies = h.policies;
+  few_policies = h.few_policies;
+  names_differ = h.names_differ;
+  relations = h.relations;
+  few_relations = h.few_relations;
+  ascending = h.ascending;
+  relations_counted = h.relations_counted;
+  transfers_counted = h.transfers_counted;
+  clock = h.clock;
 }
 
 pub formed_push : (w : Up) (u : Volume) → length w.volumes < most_volumes → ((v : Volume) → Among w.volumes v → ¬ (v.path ≡ u.path)) → ((v : Volume) → Among w.volumes v → ¬ (v.disk ≡ u.disk)) →
@@ -38,6 +47,15 @@ formed_push w u l a b h k = record {
   few = rw (length-append w.volumes (u ∷ [])) (omega (arith, l));
   paths_differ = differ_push path_of w.volumes u h.paths_differ a;
   disks_differ = differ_push disk_of w.volumes u h.disks_differ b;
+  policies = h.policies;
+  few_policies = h.few_policies;
+  names_differ = h.names_differ;
+  relations = h.relations;
+  few_relations = h.few_relations;
+  ascending = h.ascending;
+  relations_counted = h.relations_counted;
+  transfers_counted = h.transfers_counted;
+  clock = h.clock;
 }
 
 -- ---- a block was written

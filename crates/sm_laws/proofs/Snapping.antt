@@ -17,14 +17,16 @@ use Rattle.sm_model.specs.Answers.{told}
 use Rattle.sm_model.specs.InRange.{IsGiven, IsSnap}
 use Rattle.sm_model.specs.OfVolumes.{snap, snapped, client_ident, client_snapshot}
 use Rattle.sm_model.specs.World.{Deed}
-use Rattle.sm_model.specs.Standing.{Stands}
+use Rattle.sm_model.specs.Standing.{Stands, EachVolume}
 use Rattle.sm_model.specs.Formed.{Formed}
 use Rattle.sm_model.specs.TagsFit.{TagsFit, TagsFitIn}
-use Rattle.sm_model.specs.DestinationsStand.{DestinationsStand, StandsAtSnapshot}
-use Rattle.sm_model.specs.NumbersStand.{NumbersStand, NumberStands, clients}
+use Rattle.sm_model.specs.DestinationsStand.{StandsAtSnapshot}
+use Rattle.sm_model.specs.NumbersStand.{NumberStands, clients}
+use Rattle.sm_model.specs.FamiliesStand.{IsFamily}
 use Rattle.sm_model.specs.Sound.{SoundUp}
 use Rattle.sm_model.specs.Drops.{NamedFor}
 use Rattle.sm_model.specs.Origin.{makes}
+use Rattle.sm_laws.specs.Early.{IsBare}
 use Rattle.sm_laws.specs.Listed.{IsListed}
 use Rattle.sm_laws.proofs.Tests.{writable, not_both, below_bound}
 use Rattle.sm_laws.proofs.Walk.{Ends, past, with_found, now}
@@ -34,7 +36,8 @@ use Rattle.sm_laws.proofs.Tags.{snapped_fits}
 use Rattle.sm_laws.proofs.Shapes.{formed_set, formed_snapped}
 use Rattle.sm_laws.proofs.Copies.{ComesFrom, stays, copies_fresh}
 use Rattle.sm_laws.proofs.Families.{ComesInFamily, stays_in_family, families_fresh}
-use Rattle.sm_laws.proofs.Given.{Given, clients_number, Grown, grown_set, number_grows, next_not_given, client_fresh}
+use Rattle.sm_laws.proofs.Given.{Given, clients_number, Grown, grown_set, number_grows, family_grows, next_not_given, client_fresh}
+use Rattle.sm_laws.proofs.Bare.{sound_if_bare}
 use Rattle.sm_laws.proofs.Keeping.{KeepsAll, keeps_set, has_append}
 use Rattle.sm_laws.proofs.Lawful.{DoesLawfully, IsLawful, Traced, from_old, from_deed, deed, snapped_makes, made_is, is_made, find_only, none_dropped}
 
@@ -71,7 +74,7 @@ module _ (w : Up) (path name : List ℕ) (label : Option (List ℕ)) (v : Found 
   not_given : ¬ Given w (client_ident v.at v.item)
   not_given = next_not_given w (λ v. bytes_eq v.path path) v m.is
 
-  unlike : NumbersStand w → (u : Volume) (s : Snapshot) → Stands w u s → ¬ (s.ident ≡ client_ident v.at v.item)
+  unlike : ((v : Volume) (s : Snapshot) → Stands w v s → NumberStands w s) → (u : Volume) (s : Snapshot) → Stands w u s → ¬ (s.ident ≡ client_ident v.at v.item)
   unlike n = client_fresh w (λ v. bytes_eq v.path path) v n m.is
 
   formed : IsSnap path name label → Formed w → Formed new
@@ -81,7 +84,7 @@ module _ (w : Up) (path name : List ℕ) (label : Option (List ℕ)) (v : Found 
       (below_bound (length v.item.snapshots) most_snapshots (h.volumes v.item old_stands).few m.few)
       (below_bound v.item.next last_number (h.volumes v.item old_stands).counted.1 m.counts) (h.volumes v.item old_stands))
 
-  tags : NumbersStand w → TagsFit w → TagsFit new
+  tags : ((v : Volume) (s : Snapshot) → Stands w v s → NumberStands w s) → TagsFit w → TagsFit new
   unfolding new
   tags n h = each_set TagsFitIn w v.at (snapped v.at w.clock v.item name label) h
       (snapped_fits v.item (client_snapshot v.at w.clock v.item name label) refl (λ t k. unlike n v.item t (old_stands, k)) (h v.item old_stands))
@@ -107,9 +110,9 @@ module _ (w : Up) (path name : List ℕ) (label : Option (List ℕ)) (v : Found 
       (λ s n. inl (record { volume = v.item; snapshot = s; stands = (old_stands, n); family = refl; ident = refl; numbers = refl })) (inr refl))
       (λ u s n. inl (stays_in_family w u s n))
 
-  destinations : DestinationsStand w → DestinationsStand new
+  destinations : EachVolume (λ v. v.kind ≡ Dp → StandsAtSnapshot v) w → EachVolume (λ v. v.kind ≡ Dp → StandsAtSnapshot v) new
   unfolding new
-  destinations h = record { volumes = each_set (λ v. v.kind ≡ Dp → StandsAtSnapshot v) w v.at (snapped v.at w.clock v.item name label) h.volumes (λ e. absurd (not_both v.item.kind m.is_rw e)) }
+  destinations h = each_set (λ v. v.kind ≡ Dp → StandsAtSnapshot v) w v.at (snapped v.at w.clock v.item name label) h (λ e. absurd (not_both v.item.kind m.is_rw e))
 
   grown : Grown w new
   unfolding new
@@ -130,23 +133,30 @@ module _ (w : Up) (path name : List ℕ) (label : Option (List ℕ)) (v : Found 
     seq = clients v.item.next (record { seq = refl; counts = (h.volumes v.item old_stands).counted.0; given = counted_on; maker = refl; name = g.clients });
   }
 
-  numbers : IsSnap path name label → Formed w → NumbersStand w → NumbersStand new
+  numbers : IsSnap path name label → Formed w → ((u : Volume) (s : Snapshot) → Stands w u s → NumberStands w s) → (u : Volume) (s : Snapshot) → Stands new u s → NumberStands new s
   unfolding new later
-  numbers g f h = record {
-    snapshots = stands_set (λ _ s. NumberStands new s) w v.at (snapped v.at w.clock v.item name label)
-        (among_new (NumberStands new) (λ s n. number_grows grown (h.snapshots v.item s (old_stands, n))) (fresh_stands g f)) (λ u s n. number_grows grown (h.snapshots u s n));
-  }
+  numbers g f h = stands_set (λ _ s. NumberStands new s) w v.at (snapped v.at w.clock v.item name label)
+      (among_new (NumberStands new) (λ s n. number_grows grown refl (h v.item s (old_stands, n))) (fresh_stands g f)) (λ u s n. number_grows grown refl (h u s n))
 
-  sound : SoundUp w → IsSnap path name label → SoundUp new
+  in_families : EachVolume (λ u. IsFamily w u.family) w → EachVolume (λ u. IsFamily new u.family) new
+  unfolding new
+  in_families h u k = family_grows grown (each_set (λ x. IsFamily w x.family) w v.at (snapped v.at w.clock v.item name label) h (h v.item old_stands) u k)
+
+  bare : IsBare w → IsBare new
+  unfolding new
+  bare b = record { relations = b.relations; policies = b.policies }
+
+  sound : SoundUp w → IsBare w → IsSnap path name label → SoundUp new
   unfolding fresh
-  sound h g = record {
+  sound h b g = sound_if_bare new (bare b) (record {
     formed = formed g h.formed;
-    tags_fit = tags h.numbers_stand h.tags_fit;
-    copies_agree = copies_fresh w new fresh copies (unlike h.numbers_stand) h.copies_agree;
-    families_agree = families_fresh w new fresh families (unlike h.numbers_stand) h.families_agree;
-    destinations_stand = destinations h.destinations_stand;
-    numbers_stand = numbers g h.formed h.numbers_stand;
-  }
+    tags_fit = tags h.numbers_stand.snapshots h.tags_fit;
+    copies_agree = copies_fresh w new fresh copies (unlike h.numbers_stand.snapshots) h.copies_agree;
+    families_agree = families_fresh w new fresh families (unlike h.numbers_stand.snapshots) h.families_agree;
+    destinations = destinations h.destinations_stand.volumes;
+    numbers = numbers g h.formed h.numbers_stand.snapshots;
+    families = in_families h.families_stand.given;
+  })
 
   keeps : KeepsAll w new
   unfolding new
@@ -179,14 +189,15 @@ module _ (w : Up) (path name : List ℕ) (label : Option (List ℕ)) (v : Found 
     unfolding NamedFor
     none_named d u i h = h
 
-    sound_given : SoundUp w → IsGiven (events.Snap path name label) → SoundUp new
+    sound_given : SoundUp w → IsBare w → IsGiven (events.Snap path name label) → SoundUp new
     unfolding IsGiven
-    sound_given h g = sound h g
+    sound_given h b g = sound h b g
 
     lawful : IsLawful the_deed
     unfolding the_deed
     lawful = record {
       sound = sound_given;
+      bare = bare;
       grown = grown;
       traced = λ _. traced;
       made_given = given;

@@ -13,13 +13,15 @@ use Rattle.sm_model.specs.declared.reply.Reply.TheVariants as replies
 use Rattle.sm_model.specs.Answers.{told}
 use Rattle.sm_model.specs.OfVolumes.{write, written}
 use Rattle.sm_model.specs.World.{Deed}
-use Rattle.sm_model.specs.Standing.{Stands}
+use Rattle.sm_model.specs.Standing.{Stands, EachVolume}
 use Rattle.sm_model.specs.Formed.{Formed}
 use Rattle.sm_model.specs.TagsFit.{TagsFit, TagsFitIn}
-use Rattle.sm_model.specs.DestinationsStand.{DestinationsStand, StandsAtSnapshot}
-use Rattle.sm_model.specs.NumbersStand.{NumbersStand, NumberStands}
+use Rattle.sm_model.specs.DestinationsStand.{StandsAtSnapshot}
+use Rattle.sm_model.specs.NumbersStand.{NumberStands}
+use Rattle.sm_model.specs.FamiliesStand.{IsFamily}
 use Rattle.sm_model.specs.Sound.{SoundUp}
 use Rattle.sm_model.specs.Drops.{NamedFor}
+use Rattle.sm_laws.specs.Early.{IsBare}
 use Rattle.sm_laws.specs.Listed.{IsListed}
 use Rattle.sm_laws.proofs.Tests.{writable, not_both}
 use Rattle.sm_laws.proofs.Walk.{Ends, past, with_found, now}
@@ -30,7 +32,8 @@ use Rattle.sm_laws.proofs.Tags.{written_fits}
 use Rattle.sm_laws.proofs.Shapes.{formed_set, formed_written}
 use Rattle.sm_laws.proofs.Copies.{ComesFrom, stays, copies_come}
 use Rattle.sm_laws.proofs.Families.{ComesInFamily, stays_in_family, families_come}
-use Rattle.sm_laws.proofs.Given.{Grown, grown_set, number_grows}
+use Rattle.sm_laws.proofs.Given.{Grown, grown_set, number_grows, family_grows}
+use Rattle.sm_laws.proofs.Bare.{sound_if_bare}
 use Rattle.sm_laws.proofs.Keeping.{KeepsAll, keeps_set}
 use Rattle.sm_laws.proofs.Lawful.{DoesLawfully, IsLawful, deed, unmade, done_makes_nothing}
 
@@ -69,30 +72,37 @@ module _ (w : Up) (path : List ℕ) (block fill : ℕ) (v : Found Volume) (m : M
   families = stands_set (ComesInFamily w) w v.at (written v.item block fill)
       (λ s n. record { volume = v.item; snapshot = s; stands = (old_stands, n); family = refl; ident = refl; numbers = refl }) (stays_in_family w)
 
-  destinations : DestinationsStand w → DestinationsStand new
+  destinations : EachVolume (λ v. v.kind ≡ Dp → StandsAtSnapshot v) w → EachVolume (λ v. v.kind ≡ Dp → StandsAtSnapshot v) new
   unfolding new
-  destinations h = record { volumes = each_set (λ v. v.kind ≡ Dp → StandsAtSnapshot v) w v.at (written v.item block fill) h.volumes (λ e. absurd (not_both v.item.kind m.is_rw e)) }
+  destinations h = each_set (λ v. v.kind ≡ Dp → StandsAtSnapshot v) w v.at (written v.item block fill) h (λ e. absurd (not_both v.item.kind m.is_rw e))
 
   grown : Grown w new
   unfolding new
   grown = grown_set w v.at (written v.item block fill) (written_next w v block fill (ap (λ u. u.next) (found_at (λ v. bytes_eq v.path path) w.volumes v no_volume m.is)))
 
-  numbers : NumbersStand w → NumbersStand new
+  numbers : ((u : Volume) (s : Snapshot) → Stands w u s → NumberStands w s) → (u : Volume) (s : Snapshot) → Stands new u s → NumberStands new s
   unfolding new
-  numbers h = record {
-    snapshots = stands_set (λ _ s. NumberStands new s) w v.at (written v.item block fill) (λ s n. number_grows grown (h.snapshots v.item s (old_stands, n)))
-        (λ u s n. number_grows grown (h.snapshots u s n));
-  }
+  numbers h = stands_set (λ _ s. NumberStands new s) w v.at (written v.item block fill) (λ s n. number_grows grown refl (h v.item s (old_stands, n)))
+      (λ u s n. number_grows grown refl (h u s n))
 
-  sound : SoundUp w → SoundUp new
-  sound h = record {
+  in_families : EachVolume (λ u. IsFamily w u.family) w → EachVolume (λ u. IsFamily new u.family) new
+  unfolding new
+  in_families h u k = family_grows grown (each_set (λ x. IsFamily w x.family) w v.at (written v.item block fill) h (h v.item old_stands) u k)
+
+  bare : IsBare w → IsBare new
+  unfolding new
+  bare b = record { relations = b.relations; policies = b.policies }
+
+  sound : SoundUp w → IsBare w → SoundUp new
+  sound h b = sound_if_bare new (bare b) (record {
     formed = formed h.formed h.tags_fit;
     tags_fit = tags h.tags_fit;
     copies_agree = copies_come w new copies h.copies_agree;
     families_agree = families_come w new families h.families_agree;
-    destinations_stand = destinations h.destinations_stand;
-    numbers_stand = numbers h.numbers_stand;
-  }
+    destinations = destinations h.destinations_stand.volumes;
+    numbers = numbers h.numbers_stand.snapshots;
+    families = in_families h.families_stand.given;
+  })
 
   keeps : KeepsAll w new
   unfolding new
@@ -104,7 +114,7 @@ module _ (w : Up) (path : List ℕ) (block fill : ℕ) (v : Found Volume) (m : M
 
   lawful : (actor : ℕ) (reply : Reply) → reply ≡ replies.Done → IsLawful (deed actor w (events.Write path block fill) reply new)
   lawful actor reply e =
-      unmade actor w (events.Write path block fill) reply new (λ s _. sound s) grown copies keeps (done_makes_nothing reply e) (λ r f. cc) none_named
+      unmade actor w (events.Write path block fill) reply new (λ s b _. sound s b) bare grown copies keeps (done_makes_nothing reply e) (λ r f. cc) none_named
 
   does : DoesLawfully w (events.Write path block fill) (record { reply = told replies.Done; world = with_volume w v.at (written v.item block fill) })
   unfolding new

@@ -16,13 +16,11 @@ IsTooSmall physical r = (len : ℕ) × (len < length_needed physical) × (r ≡ 
 abbrev pub LacksName : Option (List ℕ) → Refusal → Type 0
 LacksName given r = (name : List ℕ) × (given ≡ Some name) × (r ≡ refusals.NoSnapshot name)
 
--- events of the report meet none
+-- events of the report meet none; of events that are not early nothing is listed yet
 unfoldable pub IsListed : Event → Refusal → Type 0
 IsListed (events.CreateVolume path disk kind logical physical) r =
     Among (refusals.NameTaken ∷ refusals.NoDisk disk ∷ refusals.DiskTaken ∷ refusals.Full Volumes ∷ []) r ⊎ IsTooSmall physical r
 IsListed (events.Write path block fill) r = Among (refusals.NoVolume path ∷ refusals.ReadOnly ∷ refusals.BadBlock ∷ refusals.NoSpace ∷ []) r
 IsListed (events.Snap path name label) r = Among (refusals.NoVolume path ∷ refusals.ReadOnly ∷ refusals.NameTaken ∷ refusals.SnapFull ∷ []) r
 IsListed (events.Read path name block) r = Among (refusals.NoVolume path ∷ refusals.BadBlock ∷ []) r ⊎ LacksName name r
-IsListed events.Head r = ⊥
-IsListed (events.VolumeLine volume) r = ⊥
-IsListed (events.Digest volume place) r = ⊥
+IsListed _ r = ⊥
