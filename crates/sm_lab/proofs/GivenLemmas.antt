@@ -22,9 +22,7 @@ spelled_given n line (events.Snap path name None) (later, s) = record { path_giv
 spelled_given n line (events.Snap path name (Some label)) s = absurd s
 spelled_given n line (events.Read path (Some name) block) (later, s) = record { path_given = s.good_path; name_given = s.good_name; block_given = s.blocks.small }
 spelled_given n line (events.Read path None block) (later, s) = record { path_given = s.good_path; name_given = tt; block_given = s.blocks.small }
-spelled_given n line events.Head s = absurd s
-spelled_given n line (events.VolumeLine volume) s = absurd s
-spelled_given n line (events.Digest volume place) s = absurd s
+spelled_given n line e s = absurd s
 
 -- each command's event
 pub all_given : (n : ℕ) (lines : List (List ℕ)) (commands : List Command) → AreSpelled n lines commands → All (λ c. IsGiven c.event) commands

@@ -6,10 +6,13 @@ use Rattle.std.specs.List.{list_any, prefix_len}
 use Rattle.std.specs.Str.{bytes_eq}
 use Rattle.sm_base.specs.declared.faults.NoMemory.{NoMemory}
 use Rattle.sm_base.specs.declared.numbers.DiskNo.{DiskNo}
+use Rattle.sm_base.specs.declared.numbers.VolNo.{VolNo}
 use Rattle.sm_base.specs.declared.numbers.Kind.{Kind}
 use Rattle.sm_base.specs.declared.refusal.Refusal.{Refusal}
 use Rattle.sm_base.specs.declared.refusal.Refusal.TheVariants as refusals
 use Rattle.sm_base.specs.declared.refusal.What.TheVariants.{Volumes}
+use Rattle.sm_model.specs.declared.event.Event.{Event}
+use Rattle.sm_model.specs.declared.event.Event.TheVariants as events
 use Rattle.sm_model.specs.declared.reply.Reply.{Reply}
 use Rattle.sm_model.specs.declared.reply.Reply.TheVariants as replies
 use Rattle.sm_defs.specs.Image.{Image, full_block}
@@ -19,6 +22,7 @@ use Rattle.sm_defs.specs.Volume as model
 use Rattle.sm_defs.specs.World.{Up, with_volume, volume_at}
 use Rattle.sm_model.specs.Answers.{Answer, and_then, refused_if, some_or, volume_named, volno, told, shows}
 use Rattle.sm_model.specs.OfVolumes as volumes
+use Rattle.sm_laws.specs.Early.{IsEarly, creates, writes, snaps, reads, heads, lists, digests}
 use Rattle.sm_lab.specs.Node.{volume_of, IsAnswered, IsWritten, IsSnapped, IsShown, ChangesOne, write_test, snap_test, read_test, create_test}
 use Rattle.sm_lab.specs.declared.volume.Volume.{Volume}
 
@@ -281,3 +285,16 @@ read_in vs disks w path name place at r v view e is h =
     let same : length (map volume_of vs) ≡ length vs = rw length-map refl in
     let here : volume_of v ≡ volume_at w at = ap volume_of is ∙ volume_in vs disks w at v view (omega arith) in
     read_at w path name place at r (sym e) (subst (λ (m : model.Volume). IfOk r (λ reply. IsShown (read_test m name place) reply)) here h)
+
+-- an early event is one of the seven
+pub is_one : {e : Event} → IsEarly e → ((path : List ℕ) (disk : DiskNo) (kind : Kind) (logical physical : ℕ) → ¬ (e ≡ events.CreateVolume path disk kind logical physical)) →
+    ((path : List ℕ) (block fill : ℕ) → ¬ (e ≡ events.Write path block fill)) → ((path name : List ℕ) (label : Option (List ℕ)) → ¬ (e ≡ events.Snap path name label)) →
+    ((path : List ℕ) (name : Option (List ℕ)) (block : ℕ) → ¬ (e ≡ events.Read path name block)) → ¬ (e ≡ events.Head) → ((volume : VolNo) → ¬ (e ≡ events.VolumeLine volume)) →
+    ((volume : VolNo) (place : Option ℕ) → ¬ (e ≡ events.Digest volume place)) → ⊥
+is_one (creates path disk kind logical physical) no_create no_write no_snap no_read no_head no_line no_digest = no_create path disk kind logical physical refl
+is_one (writes path block fill) no_create no_write no_snap no_read no_head no_line no_digest = no_write path block fill refl
+is_one (snaps path name label) no_create no_write no_snap no_read no_head no_line no_digest = no_snap path name label refl
+is_one (reads path name block) no_create no_write no_snap no_read no_head no_line no_digest = no_read path name block refl
+is_one heads no_create no_write no_snap no_read no_head no_line no_digest = no_head refl
+is_one (lists volume) no_create no_write no_snap no_read no_head no_line no_digest = no_line volume refl
+is_one (digests volume place) no_create no_write no_snap no_read no_head no_line no_digest = no_digest volume place refl

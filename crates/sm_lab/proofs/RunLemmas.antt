@@ -1,5 +1,5 @@
 -- How the history grows.
-use Rattle.std.proofs.Common.{◌≡◌, ℕ, List, [], ◌∷◌, ◌++◌, refl, ap, subst, sym, map, take, drop, append_assoc, ◌∙◌, Ok, Err}
+use Rattle.std.proofs.Common.{◌≡◌, ℕ, List, [], ◌∷◌, ◌++◌, refl, ap, subst, sym, map, take, drop, append_assoc, ◌∙◌, Option, Some, None, Ok, Err}
 use Rattle.std.proofs.lemmas.List.{take-append-drop, map-append}
 use Rattle.sm_model.specs.declared.event.Event.{Event}
 use Rattle.sm_model.specs.declared.event.Event.TheVariants as events
@@ -11,35 +11,63 @@ use Rattle.sm_model.specs.Answers.{Answer}
 use Rattle.sm_model.specs.Answer.{answer}
 use Rattle.sm_model.specs.Asked.{Asked}
 use Rattle.sm_model.specs.InRange.{IsGiven, IsThere}
-use Rattle.sm_model.specs.LegalRun.{Fits, done, refused, IsDone, IsRefused}
+use Rattle.sm_model.specs.LegalRun.{Fits, done, quiet, IsDone, IsRefused}
 use Rattle.sm_script.specs.Grammar.{IsCommand}
+use Rattle.sm_laws.specs.Early.{IsEarly, creates, writes, snaps, reads, heads, lists, digests, IsFaultless, AllFaultless}
 use Rattle.sm_laws.proofs.Runs as runs
-use Rattle.sm_lab.specs.Node.{start, IsAnswered}
+use Rattle.sm_laws.proofs.Entries.{done_deed, refused_quiet, all_joined}
+use Rattle.sm_laws.proofs.Faultless.{done_faultless, refused_faultless, faults_rise}
+use Rattle.sm_lab.specs.Node.{start, Answers}
 use Rattle.sm_lab.specs.Reporting.{IsLook}
 use Rattle.sm_lab.specs.History.{Reaches, Begins}
 
 -- an answer is a deed, or none where it is a refusal
-fits : (a b : Up) (e : Entry) (x : Answer) → x ≡ answer a e.event → IsAnswered a x e.reply b → (first : List Deed) × Fits (up a) e [] first (up b) []
-fits a b e (Ok reached) q h =
+fits : (a b : Up) (e : Entry) (x : Option Answer) → IsEarly e.event → x ≡ answer a e.event → Answers a x e.reply b → (first : List Deed) × Fits (up a) e [] first (up b) []
+fits a b e (Some (Ok reached)) y q h =
     let d : Deed = record { actor = e.actor; event = e.event; old = a; reply = e.reply; new = b } in
-    (d ∷ [], done d refl refl refl refl (subst (λ x. IsDone x d) q h))
-fits a b e (Err refusal) q h = ([], subst (λ w. Fits (up a) e [] [] (up w) []) (sym h.1) (refused (subst (λ x. IsRefused x e.reply) q h.0)))
+    (d ∷ [], done d refl refl refl refl (done_deed d y (subst (λ x. IsDone x d) q h)))
+fits a b e (Some (Err refusal)) y q h =
+    ([], subst (λ w. Fits (up a) e [] [] (up w) []) (sym h.1) (quiet (refused_quiet a e.reply y (subst (λ x. IsRefused x e.reply) q h.0))))
+fits a b e None y q h = absurd h
+
+-- no disk fails in what is answered
+answered_faultless : (a b : Up) (e : Event) (reply : Reply) (x : Option Answer) → IsEarly e → answer a e ≡ x → Answers a x reply b → IsFaultless reply
+answered_faultless a b e reply (Some (Ok reached)) y q h = done_faultless a e reached reply y q h.0
+answered_faultless a b e reply (Some (Err refusal)) y q h = refused_faultless a e reply refusal y q h.0
+answered_faultless a b e reply None y q h = absurd h
+
+pub nothing_yet : Reaches [] start
+nothing_yet = record { deeds = []; legal = record { runs = runs.nil (up start); faults_rise = tt }; early = tt; faultless = tt }
 
 -- the history goes on by one entry
-pub goes_on : (es : List Entry) (e : Entry) (a b : Up) → IsGiven e.event → IsThere a e.event → Reaches es a → IsAnswered a (answer a e.event) e.reply b → Reaches (es ++ e ∷ []) b
-goes_on es e a b given there run h =
-    let f = fits a b e (answer a e.event) refl h in (run.0 ++ f.0, runs.snoc (up start) (up a) (up b) es e run.0 f.0 run.1 (given, there) f.1)
+pub goes_on : (es : List Entry) (e : Entry) (a b : Up) → IsEarly e.event → IsGiven e.event → IsThere a e.event → Reaches es a → Answers a (answer a e.event) e.reply b → Reaches (es ++ e ∷ []) b
+goes_on es e a b y given there run h =
+    let f = fits a b e (answer a e.event) y refl h in
+    let faultless : AllFaultless (es ++ e ∷ []) = all_joined (λ (e : Entry). IsFaultless e.reply) es (e ∷ []) run.faultless (answered_faultless a b e.event e.reply (answer a e.event) y refl h, tt) in
+    record {
+      deeds = run.deeds ++ f.0;
+      legal = record { runs = runs.snoc (up start) (up a) (up b) es e run.deeds f.0 run.legal.runs (given, there) f.1; faults_rise = faults_rise (es ++ e ∷ []) faultless };
+      early = all_joined (λ (e : Entry). IsEarly e.event) es (e ∷ []) run.early (y, tt);
+      faultless = faultless;
+    }
 
 -- a report's event leaves the world
-pub looks : (a b : Up) (e : Event) (reply : Reply) → IsLook e → IsAnswered a (answer a e) reply b → b ≡ a
+pub looks : (a b : Up) (e : Event) (reply : Reply) → IsEarly e → IsLook e → Answers a (answer a e) reply b → b ≡ a
 unfolding answer
-looks a b (events.CreateVolume path disk kind logical physical) reply look h = absurd look
-looks a b (events.Write path block fill) reply look h = absurd look
-looks a b (events.Snap path name label) reply look h = absurd look
-looks a b (events.Read path name block) reply look h = absurd look
-looks a b events.Head reply look h = h.1
-looks a b (events.VolumeLine volume) reply look h = h.1
-looks a b (events.Digest volume place) reply look h = h.1
+looks a b _ reply (creates path disk kind logical physical) look h = absurd look
+looks a b _ reply (writes path block fill) look h = absurd look
+looks a b _ reply (snaps path name label) look h = absurd look
+looks a b _ reply (reads path name block) look h = absurd look
+looks a b _ reply heads look h = h.1
+looks a b _ reply (lists volume) look h = h.1
+looks a b _ reply (digests volume place) look h = h.1
+
+pub command_early : (e : Event) → IsCommand e → IsEarly e
+command_early (events.CreateVolume path disk kind logical physical) h = creates path disk kind logical physical
+command_early (events.Write path block fill) h = writes path block fill
+command_early (events.Snap path name label) h = snaps path name label
+command_early (events.Read path name block) h = reads path name block
+command_early e h = absurd h
 
 -- a command speaks of nothing that has to stand
 pub command_there : (a : Up) (e : Event) → IsCommand e → IsThere a e
@@ -48,9 +76,7 @@ command_there a (events.CreateVolume path disk kind logical physical) h = tt
 command_there a (events.Write path block fill) h = tt
 command_there a (events.Snap path name label) h = tt
 command_there a (events.Read path name block) h = tt
-command_there a events.Head h = absurd h
-command_there a (events.VolumeLine volume) h = absurd h
-command_there a (events.Digest volume place) h = absurd h
+command_there a e h = absurd h
 
 -- what was asked so far is a front of all that is asked
 pub begins : {X : Type 0} (f : X → Asked) (first so_far : List Asked) (xs : List X) (i : ℕ) → so_far ≡ first ++ map f (take i xs) → Begins so_far (first ++ map f xs)

@@ -6,20 +6,20 @@ use Rattle.sm_stream.specs.Whole.{TookAtMost}
 use Rattle.sm_model.specs.declared.reply.Entry.{Entry}
 use Rattle.sm_model.specs.Asked.{asked_of, asking, report_events}
 use Rattle.sm_defs.specs.World.{Up}
-use Rattle.sm_model.specs.World.{up}
 use Rattle.sm_script.specs.Script.{Parsed, parse}
 use Rattle.sm_script.specs.declared.command.Command.{Command}
-use Rattle.sm_laws.proofs.Runs as runs
 use Rattle.sm_lab.specs.Node.{start}
 use Rattle.sm_lab.specs.History.{asked_by, all_asked, Reaches, IsLegal, HasBegun, IsWholeRun, IsPartRun}
 use Rattle.sm_lab.specs.Status.{longest_script, IsCaused, IsHistory, IsRun, HasHistory, due, due_of, IsDue}
+use Rattle.sm_laws.specs.Early.{AllEarly}
+use Rattle.sm_lab.proofs.RunLemmas.{nothing_yet}
 use Rattle.sm_lab.specs.Output.{Ends, IsPrinted, IsWritten}
 use Rattle.sm_lab.specs.declared.status.Status as the_status
 use Rattle.sm_lab.specs.declared.status.Status.TheVariants as statuses
 
 -- nothing was done
 pub nothing : (history : List Entry) → history ≡ [] → Reaches history start
-nothing history e = rw e ([], runs.nil (up start))
+nothing history e = rw e nothing_yet
 
 pub nothing_done : (commands : List Command) (history : List Entry) → history ≡ [] → IsPartRun commands history
 nothing_done commands history e = (start, nothing history e, (all_asked commands start, rw e refl))
@@ -66,6 +66,9 @@ legal old new statuses.Usage history e = (start, nothing history e)
 legal old new (statuses.BadLine line kind) history e = (start, nothing history e)
 legal old new statuses.ScriptTooLong history e = (start, nothing history e)
 legal old new statuses.ReadFault history e = (start, nothing history e)
+
+pub early : (old new : Option (List ℕ)) (status : the_status.Status) (history : List Entry) → IsHistory old new status history → AllEarly history
+early old new status history h = (legal old new status history h).1.early
 
 pub read_to_end : (old new : Option (List ℕ)) (status : the_status.Status) (history : List Entry) → IsHistory old new status history → history ≢ [] → IsAtEnd new
 read_to_end old new statuses.Fine history (commands, (text, short, came, end, parsed), done) some_done = end

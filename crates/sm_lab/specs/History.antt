@@ -8,10 +8,11 @@ use Rattle.sm_defs.specs.Volume.{Volume, Snapshot}
 use Rattle.sm_defs.specs.World.{Up}
 use Rattle.sm_defs.specs.Needed.{needed}
 use Rattle.sm_model.specs.World.{up, Deed}
-use Rattle.sm_model.specs.LegalRun.{Run}
+use Rattle.sm_model.specs.LegalRun.{Run, IsLegal as IsLegalRun}
 use Rattle.sm_model.specs.Asked.{Asked, asking, asked_of, report_events}
 use Rattle.sm_model.specs.Standing.{Stands}
 use Rattle.sm_model.specs.Drops.{Drops, NamedFor}
+use Rattle.sm_laws.specs.Early.{AllEarly, AllFaultless}
 use Rattle.sm_laws.specs.Laws.{HasOriginsContents}
 use Rattle.sm_lab.specs.Node.{start}
 
@@ -19,8 +20,12 @@ use Rattle.sm_lab.specs.Node.{start}
 abbrev pub LeadsTo : List Entry → List Deed → Up → Type 0
 LeadsTo history deeds world = Run (up start) history [] deeds (up world)
 
-abbrev pub Reaches : List Entry → Up → Type 0
-Reaches history world = (deeds : List Deed) × LeadsTo history deeds world
+-- so they do as a legal run of events on volumes alone, without restarts, in which no disk fails
+pub record Reaches (history : List Entry) (world : Up) : Type 0 where
+  pub deeds : List Deed
+  pub legal : IsLegalRun start history [] deeds (up world)
+  pub early : AllEarly history
+  pub faultless : AllFaultless history
 
 abbrev pub IsLegal : List Entry → Type 0
 IsLegal history = (last : Up) × Reaches history last

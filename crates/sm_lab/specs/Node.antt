@@ -1,5 +1,5 @@
 -- What the node's fields stand for, and the tests of its events.
-use Rattle.std.specs.Prelude.{◌≡◌, ℕ, ◌==◌, ◌||◌, not, nat_lt, nat_le, List, length, map, replicate, slice_get, slice_set, slice_index_or, Option, Result, Ok, Err}
+use Rattle.std.specs.Prelude.{◌≡◌, ℕ, ◌==◌, ◌||◌, not, nat_lt, nat_le, List, length, map, replicate, slice_get, slice_set, slice_index_or, Option, Some, None, Result, Ok, Err}
 use Rattle.std.specs.List.{list_any}
 use Rattle.std.specs.Str.{bytes_eq}
 use Rattle.sm_base.specs.declared.numbers.DiskNo.{DiskNo}
@@ -43,6 +43,11 @@ start = empty_world plain_disks
 abbrev pub IsAnswered : Up → Answer → Reply → Up → Type 0
 IsAnswered old (Ok reached) reply new = Tells reached.reply reply × (new ≡ reached.world)
 IsAnswered old (Err refusal) reply new = (reply ≡ replies.Refused refusal) × (new ≡ old)
+
+-- the world alone answers, and this is left
+abbrev pub Answers : Up → Option Answer → Reply → Up → Type 0
+Answers old None reply new = ⊥
+Answers old (Some a) reply new = IsAnswered old a reply new
 
 -- the least free number, where one is free
 abbrev pub room_test : model.Volume → Result ℕ Refusal

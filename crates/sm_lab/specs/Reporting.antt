@@ -4,10 +4,7 @@ use Rattle.sm_model.specs.declared.event.Event.TheVariants as events
 
 -- an event of the report, which changes nothing
 abbrev pub IsLook : the_event.Event → Type 0
-IsLook (events.CreateVolume path disk kind logical physical) = ⊥
-IsLook (events.Write path block fill) = ⊥
-IsLook (events.Snap path name label) = ⊥
-IsLook (events.Read path name block) = ⊥
 IsLook events.Head = Unit {0}
 IsLook (events.VolumeLine volume) = Unit {0}
 IsLook (events.Digest volume place) = Unit {0}
+IsLook _ = ⊥

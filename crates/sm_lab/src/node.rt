@@ -9,7 +9,8 @@ ghost use Rattle.sm_model.specs.OfReport as reports;
 ghost use Rattle.sm_model.specs.declared.reply.Reply.TheVariants as replies;
 ghost use Rattle.sm_base.specs.declared.refusal.Refusal.TheVariants as refusals;
 ghost use Rattle.sm_defs.specs.Limits.{most_volumes};
-ghost use Rattle.sm_lab.specs.Node.{start, IsAnswered, IsWritten, IsSnapped, ChangesOne, create_test, write_test, snap_test, volume_of};
+ghost use Rattle.sm_laws.specs.Early.{IsEarly};
+ghost use Rattle.sm_lab.specs.Node.{start, IsAnswered, Answers, IsWritten, IsSnapped, ChangesOne, create_test, write_test, snap_test, volume_of};
 
 use crate::volume::Volume;
 use crate::volumes::{image_line, make_volume, read_from, snap_to, volume_line, write_to};
@@ -309,9 +310,10 @@ impl Node {
     /// Does one event. An `Err` changes nothing.
     #[tactic(auto, unfolding(sm_model::specs::Answer::answer, sm_model::specs::InRange::IsGiven, sm_model::specs::InRange::IsThere))]
     pub fn act(&mut self, alloc: Global, event: &Event) -> Result<Reply, NoMemory>
+        requires early { IsEarly event.now }
         requires given { IsGiven event.now }
         requires there { IsThere self.old event.now }
-        ensures answered { IfOk result (λ reply. IsAnswered self.old (answer self.old event.now) reply self.new) }
+        ensures answered { IfOk result (λ reply. Answers self.old (answer self.old event.now) reply self.new) }
         ensures err { OnErr result (self.new ≡ self.old) }
     {
         match event {
@@ -328,6 +330,7 @@ impl Node {
             Event::Head => Ok(self.head()),
             Event::VolumeLine { volume } => self.of_volume(alloc, *volume),
             Event::Digest { volume, place } => self.of_image(alloc, *volume, *place),
+            _ => unreachable!(),
         }
     }
 }

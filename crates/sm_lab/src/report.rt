@@ -2,6 +2,7 @@ ghost use Rattle.std.specs.Prelude.{◌≡◌, ◌++◌, ◌<◌, ◌≤◌, len
 ghost use Rattle.sm_defs.specs.World.{volume_at};
 ghost use Rattle.sm_model.specs.Answers.{volno};
 ghost use Rattle.sm_model.specs.Asked.{report_events, digest_events, events_of_volume};
+ghost use Rattle.sm_laws.specs.Early.{IsBare};
 
 use crate::node::Node;
 use sm_base::{NoMemory, VolNo};
@@ -37,6 +38,7 @@ fn add_volume(node: &Node, place: u32, report: &mut Vec<Event>) -> Result<(), No
 
 /// What the report asks for.
 pub fn report_of(alloc: Global, node: &Node) -> Result<Vec<Event>, NoMemory>
+    requires { IsBare node.now }
     ensures { IfOk result (λ report. report.items ≡ report_events node.now) }
 {
     let mut report = Vec::new(alloc);
