@@ -97,14 +97,14 @@ RefusalsAreListed = (w : Up) (e : Event) (r : Refusal) → IsEarly e → answer 
 
 abbrev pub OkIsNoRefusal : Type 0
 OkIsNoRefusal =
-    (w : Up) (e : Event) (reached : Reached) (reply : Reply) (r : Refusal) → IsEarly e → answer w e ≡ Some (Ok reached) → Tells reached.reply reply → ¬ (reply ≡ replies.Refused r)
+    (w : Up) (e : Event) (reached : Reached) (reply : Reply) (r : Refusal) → answer w e ≡ Some (Ok reached) → Tells reached.reply reply → ¬ (reply ≡ replies.Refused r)
 
--- a refused entry is refused as listed, and nothing changes
+-- whatever the event, nothing changes where it is refused and no disk fails; an early one is refused as listed
 abbrev pub RefusalsChangeNothing : Type 0
 RefusalsChangeNothing =
-    (old new : World) (e : Entry) (sides left : List Side) (deeds : List Deed) (r : Refusal) → IsEarly e.event → IsFaultless e.reply →
+    (old new : World) (e : Entry) (sides left : List Side) (deeds : List Deed) (r : Refusal) → IsFaultless e.reply →
     Fits old e sides deeds new left → e.reply ≡ replies.Refused r →
-    IsListed e.event r × (new ≡ old) × (deeds ≡ []) × (left ≡ sides)
+    (new ≡ old) × (deeds ≡ []) × (left ≡ sides) × (IsEarly e.event → IsListed e.event r)
 
 abbrev pub FirstVolumeIsMade : Type 0
 FirstVolumeIsMade =

@@ -11,24 +11,24 @@ pub fn empty_world_is_sound()
     ensures { EmptyWorldIsSound }
 {}
 
-/// Each entry that can be asked for leads from a sound world to a sound world.
+/// Each early entry that can be asked for leads from a sound world without relationships to a sound world.
 pub fn entries_keep_soundness()
     ensures { EntriesKeepSoundness }
 {}
 
-/// A legal run from a sound world ends in a sound world.
+/// A legal run of early events from a sound world without relationships ends in a sound world.
 pub fn runs_keep_soundness()
     ensures { RunsKeepSoundness }
 {}
 
-/// A legal run from a sound world passes through sound worlds alone: behind any of its entries it can
-/// be cut in two runs, with a sound world between them.
+/// A legal run from a sound world without relationships passes through sound worlds alone while its
+/// events are early: behind any of these it can be cut in two runs, with a sound world between them.
 pub fn each_world_is_sound()
     ensures { EachWorldIsSound }
 {}
 
-/// After a legal run from a sound world each snapshot on each volume has the contents that its origin
-/// held when it was taken.
+/// After a legal run of early events from a sound world without relationships each snapshot on each
+/// volume has the contents that its origin held when it was taken.
 pub fn copies_have_their_origins_contents()
     ensures { CopiesHaveTheirOriginsContents }
 {}
@@ -38,32 +38,34 @@ pub fn copies_had_their_origins_contents()
     ensures { CopiesHadTheirOriginsContents }
 {}
 
-/// A deed of a legal run drops exactly the snapshots that the rules name for it.
+/// A deed of a legal run of early events drops exactly the snapshots that the rules name for it.
 pub fn drops_are_named()
     ensures { DropsAreNamed }
 {}
 
-/// No deed of a legal run drops a snapshot that some relationship needs.
+/// No deed of a legal run of early events drops a snapshot that some relationship needs.
 pub fn needed_stays()
     ensures { NeededStays }
 {}
 
-/// What a history was asked for, and its start, determine its text and its last world.
+/// What a history of early events was asked for, and its start, determine its text and its last world,
+/// where no disk fails.
 pub fn text_is_determined()
     ensures { TextIsDetermined }
 {}
 
-/// Each event is refused only for the reasons that are listed for it.
+/// Each early event is refused only for the reasons that are listed for it.
 pub fn refusals_are_listed()
     ensures { RefusalsAreListed }
 {}
 
-/// What is not refused is never answered by a refusal.
+/// What is not refused is never answered by a refusal, whatever the event.
 pub fn ok_is_no_refusal()
     ensures { OkIsNoRefusal }
 {}
 
-/// An entry that answers a refusal is refused as listed, leaves the world, and is no deed.
+/// An entry that answers a refusal, but for a disk that failed, leaves the world and the sides of
+/// restarts, and is no deed, whatever its event; an early one is refused as listed.
 pub fn refusals_change_nothing()
     ensures { RefusalsChangeNothing }
 {}

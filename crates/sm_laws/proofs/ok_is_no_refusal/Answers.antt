@@ -1,5 +1,5 @@
-use Rattle.sm_laws.proofs.Refused.{ok_is_no_refusal}
+use Rattle.sm_laws.proofs.Plain.{reached_plain}
 use Rattle.sm_laws.proofs.ok_is_no_refusal.Goals as goal
 
 pub returns : goal.returns
-returns c = ok_is_no_refusal
+returns c w e reached reply r i t = reached_plain w e reached i reply t r
