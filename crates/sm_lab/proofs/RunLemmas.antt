@@ -32,7 +32,7 @@ fits a b e None y q h = absurd h
 
 -- no disk fails in what is answered
 answered_faultless : (a b : Up) (e : Event) (reply : Reply) (x : Option Answer) → IsEarly e → answer a e ≡ x → Answers a x reply b → IsFaultless reply
-answered_faultless a b e reply (Some (Ok reached)) y q h = done_faultless a e reached reply y q h.0
+answered_faultless a b e reply (Some (Ok reached)) y q h = done_faultless a e reached reply q h.0
 answered_faultless a b e reply (Some (Err refusal)) y q h = refused_faultless a e reply refusal y q h.0
 answered_faultless a b e reply None y q h = absurd h
 

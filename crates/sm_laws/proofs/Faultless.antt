@@ -16,7 +16,7 @@ use Rattle.sm_model.specs.Answer.{answer}
 use Rattle.sm_model.specs.LegalRun.{Counts, Rises, FaultsRise}
 use Rattle.sm_laws.specs.Early.{IsEarly, creates, writes, snaps, reads, heads, lists, digests, IsFaultless, AllFaultless}
 use Rattle.sm_laws.specs.Listed.{IsListed, IsTooSmall, LacksName}
-use Rattle.sm_laws.proofs.OfAnswer.{of_ok, of_refusal}
+use Rattle.sm_laws.proofs.Replies.{reached_plain, refusal_listed}
 
 -- ---- answers
 
@@ -71,14 +71,14 @@ same_refusal r s e = cc
 
 pub refused_faultless : (w : Up) (e : Event) (reply : Reply) (r : Refusal) → IsEarly e → answer w e ≡ Some (Err r) → reply ≡ replies.Refused r → IsFaultless reply
 refused_faultless w e reply r y i k =
-    let listed = of_refusal w e r y i in record {
+    let listed = refusal_listed w e r i in record {
       no_fault = λ disk count f. no_fault_listed disk count y (subst (IsListed e) (same_refusal r (refusals.DiskFault disk count) (sym k ∙ f)) listed);
       is_up = λ disk f. no_down_listed (record { 0 = disk }) y (subst (IsListed e) (same_refusal r (refusals.Down (record { 0 = disk })) (sym k ∙ f)) listed);
     }
 
-pub done_faultless : (w : Up) (e : Event) (reached : Reached) (reply : Reply) → IsEarly e → answer w e ≡ Some (Ok reached) → Tells reached.reply reply → IsFaultless reply
-done_faultless w e reached reply y i t =
-    let none = (of_ok w e reached y i 0 reply t).no_refusal in record {
+pub done_faultless : (w : Up) (e : Event) (reached : Reached) (reply : Reply) → answer w e ≡ Some (Ok reached) → Tells reached.reply reply → IsFaultless reply
+done_faultless w e reached reply i t =
+    let none = reached_plain w e reached i reply t in record {
       no_fault = λ disk count. none (refusals.DiskFault disk count);
       is_up = λ disk. none (refusals.Down (record { 0 = disk }));
     }

@@ -1,14 +1,13 @@
--- Each answer to an early event: it is reached lawfully, or refused as listed.
-use Rattle.std.proofs.Common.{◌≡◌, Some, Ok, Err, refl, sym, ◌∙◌}
+-- What an early event reaches, it reaches lawfully.
+use Rattle.std.proofs.Common.{◌≡◌, Some, Ok, refl, sym, ◌∙◌}
 use Rattle.std.proofs.lemmas.Option.{same_Some}
-use Rattle.sm_base.specs.declared.refusal.Refusal.{Refusal}
 use Rattle.sm_defs.specs.World.{Up}
 use Rattle.sm_model.specs.declared.event.Event.{Event}
 use Rattle.sm_model.specs.Answers.{Answer, Reached}
 use Rattle.sm_model.specs.Answer.{answer}
 use Rattle.sm_laws.specs.Early.{IsEarly, creates, writes, snaps, reads, heads, lists, digests}
 use Rattle.sm_laws.specs.Listed.{IsListed}
-use Rattle.sm_laws.proofs.Walk.{Ends, from_ok, from_err}
+use Rattle.sm_laws.proofs.Walk.{Ends, from_ok}
 use Rattle.sm_laws.proofs.Lawful.{DoesLawfully}
 use Rattle.sm_laws.proofs.Creating.{of_create}
 use Rattle.sm_laws.proofs.Writing.{of_write}
@@ -34,6 +33,3 @@ of_answer w (digests volume place) = record { is = _; answers = refl; ends = of_
 
 pub of_ok : (w : Up) (e : Event) (r : Reached) → IsEarly e → answer w e ≡ Some (Ok r) → DoesLawfully w e r
 of_ok w e r y i = let a = of_answer w y in from_ok (DoesLawfully w e) (IsListed e) a.is r a.ends (same_Some a.is (Ok r) (sym a.answers ∙ i))
-
-pub of_refusal : (w : Up) (e : Event) (r : Refusal) → IsEarly e → answer w e ≡ Some (Err r) → IsListed e r
-of_refusal w e r y i = let a = of_answer w y in from_err (DoesLawfully w e) (IsListed e) a.is r a.ends (same_Some a.is (Err r) (sym a.answers ∙ i))

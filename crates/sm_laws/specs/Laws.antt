@@ -93,18 +93,18 @@ TextIsDetermined =
     map asked_of es ≡ map asked_of fs → (transcript es ≡ transcript fs) × (new ≡ other)
 
 abbrev pub RefusalsAreListed : Type 0
-RefusalsAreListed = (w : Up) (e : Event) (r : Refusal) → IsEarly e → answer w e ≡ Some (Err r) → IsListed e r
+RefusalsAreListed = (w : Up) (e : Event) (r : Refusal) → answer w e ≡ Some (Err r) → IsListed e r
 
 abbrev pub OkIsNoRefusal : Type 0
 OkIsNoRefusal =
     (w : Up) (e : Event) (reached : Reached) (reply : Reply) (r : Refusal) → answer w e ≡ Some (Ok reached) → Tells reached.reply reply → ¬ (reply ≡ replies.Refused r)
 
--- whatever the event, nothing changes where it is refused and no disk fails; an early one is refused as listed
+-- where no disk failed, what is refused is refused as listed, and nothing changes
 abbrev pub RefusalsChangeNothing : Type 0
 RefusalsChangeNothing =
     (old new : World) (e : Entry) (sides left : List Side) (deeds : List Deed) (r : Refusal) → IsFaultless e.reply →
     Fits old e sides deeds new left → e.reply ≡ replies.Refused r →
-    (new ≡ old) × (deeds ≡ []) × (left ≡ sides) × (IsEarly e.event → IsListed e.event r)
+    IsListed e.event r × (new ≡ old) × (deeds ≡ []) × (left ≡ sides)
 
 abbrev pub FirstVolumeIsMade : Type 0
 FirstVolumeIsMade =

@@ -54,18 +54,18 @@ pub fn text_is_determined()
     ensures { TextIsDetermined }
 {}
 
-/// Each early event is refused only for the reasons that are listed for it.
+/// Each event is refused only for the reasons that are listed for it.
 pub fn refusals_are_listed()
     ensures { RefusalsAreListed }
 {}
 
-/// What is not refused is never answered by a refusal, whatever the event.
+/// What is not refused is never answered by a refusal.
 pub fn ok_is_no_refusal()
     ensures { OkIsNoRefusal }
 {}
 
-/// An entry that answers a refusal, but for a disk that failed, leaves the world and the sides of
-/// restarts, and is no deed, whatever its event; an early one is refused as listed.
+/// An entry that answers a refusal, but of a disk that failed, is refused as listed, leaves the world
+/// and the sides of restarts, and is no deed.
 pub fn refusals_change_nothing()
     ensures { RefusalsChangeNothing }
 {}

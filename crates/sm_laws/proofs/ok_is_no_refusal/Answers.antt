@@ -1,4 +1,4 @@
-use Rattle.sm_laws.proofs.Plain.{reached_plain}
+use Rattle.sm_laws.proofs.Replies.{reached_plain}
 use Rattle.sm_laws.proofs.ok_is_no_refusal.Goals as goal
 
 pub returns : goal.returns

@@ -1,5 +1,5 @@
-use Rattle.sm_laws.proofs.OfAnswer.{of_refusal}
+use Rattle.sm_laws.proofs.Replies.{refusal_listed}
 use Rattle.sm_laws.proofs.refusals_are_listed.Goals as goal
 
 pub returns : goal.returns
-returns c = of_refusal
+returns c = refusal_listed
