@@ -41,17 +41,7 @@ done_deed d heads h = h
 done_deed d (lists volume) h = h
 done_deed d (digests volume place) h = h
 
--- it is quiet where it is refused
-pub quiet_refused : {e : Event} (w : Up) (reply : Reply) → IsEarly e → IsQuiet w e reply → IsRefused (answer w e) reply
-unfolding IsQuiet
-quiet_refused w reply (creates path disk kind logical physical) h = h
-quiet_refused w reply (writes path block fill) h = h
-quiet_refused w reply (snaps path name label) h = h
-quiet_refused w reply (reads path name block) h = h
-quiet_refused w reply heads h = h
-quiet_refused w reply (lists volume) h = h
-quiet_refused w reply (digests volume place) h = h
-
+-- where it is refused it is quiet
 pub refused_quiet : {e : Event} (w : Up) (reply : Reply) → IsEarly e → IsRefused (answer w e) reply → IsQuiet w e reply
 unfolding IsQuiet
 refused_quiet w reply (creates path disk kind logical physical) h = h

@@ -31,6 +31,14 @@ pub record IsFaultless (reply : Reply) : Type 0 where
 abbrev pub AllFaultless : List Entry → Type 0
 AllFaultless es = AllByRecursion (λ e. IsFaultless e.reply) es
 
+-- world and sides of restarts alone tell what the event does: only a worker's step may be one of several
+abbrev pub IsDecided : Event → Type 0
+IsDecided (events.Work shown) = ⊥
+IsDecided _ = Unit {0}
+
+abbrev pub AllDecided : List Entry → Type 0
+AllDecided es = AllByRecursion (λ e. IsDecided e.event) es
+
 -- no relationship and no policy stands
 pub record IsBare (w : Up) : Type 0 where
   pub relations : w.relations ≡ []

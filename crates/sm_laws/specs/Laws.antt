@@ -26,7 +26,7 @@ use Rattle.sm_model.specs.Origin.{origin}
 use Rattle.sm_model.specs.Drops.{Drops, NamedFor}
 use Rattle.sm_model.specs.Asked.{asked_of}
 use Rattle.sm_model.specs.Text.{transcript}
-use Rattle.sm_laws.specs.Early.{IsEarly, AllEarly, IsFaultless, AllFaultless, IsBare}
+use Rattle.sm_laws.specs.Early.{IsEarly, AllEarly, AllDecided, IsFaultless, AllFaultless, IsBare}
 use Rattle.sm_laws.specs.Listed.{IsListed}
 
 abbrev pub EmptyWorldIsSound : Type 0
@@ -88,7 +88,7 @@ NeededStays =
 
 abbrev pub TextIsDetermined : Type 0
 TextIsDetermined =
-    (start new other : World) (es fs : List Entry) (sides : List Side) (deeds others : List Deed) → AllEarly es → AllFaultless es → AllFaultless fs →
+    (start new other : World) (es fs : List Entry) (sides : List Side) (deeds others : List Deed) → AllDecided es → AllFaultless es → AllFaultless fs →
     Run start es sides deeds new → Run start fs sides others other →
     map asked_of es ≡ map asked_of fs → (transcript es ≡ transcript fs) × (new ≡ other)
 

@@ -1,7 +1,8 @@
 //! Laws of the definitions: what holds of every answer and of every legal run.
 //!
 //! Each law is what a function without code ensures. The crate has no other code; its lemmas in
-//! `proofs/` are for the crates above.
+//! `proofs/` are for the crates above. Some laws are so far of early events alone, which `specs/Early`
+//! names.
 #![tactic(auto)]
 
 ghost use Rattle.sm_laws.specs.Laws.{EmptyWorldIsSound, EntriesKeepSoundness, RunsKeepSoundness, EachWorldIsSound, CopiesHaveTheirOriginsContents, CopiesHadTheirOriginsContents, DropsAreNamed, NeededStays, TextIsDetermined, RefusalsAreListed, OkIsNoRefusal, RefusalsChangeNothing, FirstVolumeIsMade};
@@ -11,24 +12,27 @@ pub fn empty_world_is_sound()
     ensures { EmptyWorldIsSound }
 {}
 
-/// Each early entry that can be asked for leads from a sound world without relationships to a sound world.
+/// Each early entry that can be asked for leads from a sound world without relationships and policies to
+/// a sound world.
 pub fn entries_keep_soundness()
     ensures { EntriesKeepSoundness }
 {}
 
-/// A legal run of early events from a sound world without relationships ends in a sound world.
+/// A legal run of early events from a sound world without relationships and policies ends in a sound
+/// world.
 pub fn runs_keep_soundness()
     ensures { RunsKeepSoundness }
 {}
 
-/// A legal run from a sound world without relationships passes through sound worlds alone while its
-/// events are early: behind any of these it can be cut in two runs, with a sound world between them.
+/// A legal run from a sound world without relationships and policies passes through sound worlds alone
+/// while its events are early: behind any of these it can be cut in two runs, with a sound world between
+/// them.
 pub fn each_world_is_sound()
     ensures { EachWorldIsSound }
 {}
 
-/// After a legal run of early events from a sound world without relationships each snapshot on each
-/// volume has the contents that its origin held when it was taken.
+/// After a legal run of early events from a sound world without relationships and policies each snapshot
+/// on each volume has the contents that its origin held when it was taken.
 pub fn copies_have_their_origins_contents()
     ensures { CopiesHaveTheirOriginsContents }
 {}
@@ -48,8 +52,8 @@ pub fn needed_stays()
     ensures { NeededStays }
 {}
 
-/// What a history of early events was asked for, and its start, determine its text and its last world,
-/// where no disk fails.
+/// What a history was asked for, its start and the sides of its restarts determine its text and its
+/// last world, where no disk fails and no worker acts.
 pub fn text_is_determined()
     ensures { TextIsDetermined }
 {}
