@@ -1,0 +1,7 @@
+pub mod Answering
+pub mod Needs
+pub mod Copies
+pub mod Contents
+pub mod Idling
+pub mod Numbers
+pub mod Dropping

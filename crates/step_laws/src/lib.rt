@@ -1,0 +1,158 @@
+//! Laws of the definitions over one answer, one step, and the runs that they make.
+//!
+//! Each law is what a function without code ensures. The crate has no other code; its lemmas in
+//! `proofs/` are for the crates above.
+#![tactic(auto)]
+
+ghost use Rattle.step_laws.specs.Answering.{OpeningAgainChangesNothing, ShowingLeavesTheWorld, OkIsNoRefusal, StepsAreNoRefusals, DeedsAreNoRefusals, RefusalsLeaveTheWorld, ChosenIsDue};
+ghost use Rattle.step_laws.specs.Needs.{AnswersKeepTheNeeded, StepsKeepTheNeeded, DeedsKeepTheNeeded, RestartsKeepSnapshots};
+ghost use Rattle.step_laws.specs.Copies.{AnswersKeepTags, StepsKeepTags, DeedsKeepTags, RestartsKeepTags, AnswersKeepCopies, StepsKeepCopies, DeedsKeepCopies, RestartsKeepCopies};
+ghost use Rattle.step_laws.specs.Contents.{DeedsAreTraced, ContentsAreTheOrigins, IdentitiesAreMadeOnce};
+ghost use Rattle.step_laws.specs.Idling.{DeedsKeepEnds, RestartsKeepEnds, RunningTransfersHaveSteps, IdleIsExact};
+ghost use Rattle.step_laws.specs.Numbers.{DeedsKeepNumbers, RestartsKeepNumbers};
+ghost use Rattle.step_laws.specs.Dropping.{DropsAreNamed};
+
+/// Opening a world that was just opened changes nothing.
+pub fn opening_again_changes_nothing()
+    ensures { OpeningAgainChangesNothing }
+{}
+
+/// Tables, reads and the report leave the world.
+pub fn showing_leaves_the_world()
+    ensures { ShowingLeavesTheWorld }
+{}
+
+/// An answer that is no refusal is never told as one.
+pub fn ok_is_no_refusal()
+    ensures { OkIsNoRefusal }
+{}
+
+/// No step's reply is a refusal: what bars a step interrupts its transfer.
+pub fn steps_are_no_refusals()
+    ensures { StepsAreNoRefusals }
+{}
+
+/// No deed's reply is a refusal.
+pub fn deeds_are_no_refusals()
+    ensures { DeedsAreNoRefusals }
+{}
+
+/// What is refused leaves the world, unless a device failed.
+pub fn refusals_leave_the_world()
+    ensures { RefusalsLeaveTheWorld }
+{}
+
+/// The step that this program chooses for an actor is due.
+pub fn chosen_is_due()
+    ensures { ChosenIsDue }
+{}
+
+/// No answer drops a snapshot that some relationship needs.
+pub fn answers_keep_the_needed()
+    ensures { AnswersKeepTheNeeded }
+{}
+
+/// No step drops a snapshot that some relationship needs.
+pub fn steps_keep_the_needed()
+    ensures { StepsKeepTheNeeded }
+{}
+
+/// No deed drops a snapshot that some relationship needs.
+pub fn deeds_keep_the_needed()
+    ensures { DeedsKeepTheNeeded }
+{}
+
+/// A restart drops no snapshot.
+pub fn restarts_keep_snapshots()
+    ensures { RestartsKeepSnapshots }
+{}
+
+/// Each answer of a sound world leaves each volume with one place and one block for a number.
+pub fn answers_keep_tags()
+    ensures { AnswersKeepTags }
+{}
+
+/// So does each step.
+pub fn steps_keep_tags()
+    ensures { StepsKeepTags }
+{}
+
+/// So does each deed.
+pub fn deeds_keep_tags()
+    ensures { DeedsKeepTags }
+{}
+
+/// So does each restart.
+pub fn restarts_keep_tags()
+    ensures { RestartsKeepTags }
+{}
+
+/// Copies of one identity agree after each answer of a sound world.
+pub fn answers_keep_copies()
+    ensures { AnswersKeepCopies }
+{}
+
+/// They agree after each step of a sound world.
+pub fn steps_keep_copies()
+    ensures { StepsKeepCopies }
+{}
+
+/// They agree after each deed that begins in a sound world.
+pub fn deeds_keep_copies()
+    ensures { DeedsKeepCopies }
+{}
+
+/// They agree after a restart if they agreed before.
+pub fn restarts_keep_copies()
+    ensures { RestartsKeepCopies }
+{}
+
+/// Each snapshot after a deed was there before, or the deed took it of what was active on its origin.
+pub fn deeds_are_traced()
+    ensures { DeedsAreTraced }
+{}
+
+/// After a run whose deeds all begin in sound worlds each snapshot has the contents that its origin held.
+pub fn contents_are_the_origins()
+    ensures { ContentsAreTheOrigins }
+{}
+
+/// No deed of such a run makes an identity that stood at the start or was made before.
+pub fn identities_are_made_once()
+    ensures { IdentitiesAreMadeOnce }
+{}
+
+/// Where each transfer has a base or a leg, so it is after each deed.
+pub fn deeds_keep_ends()
+    ensures { DeedsKeepEnds }
+{}
+
+/// So it is after each restart.
+pub fn restarts_keep_ends()
+    ensures { RestartsKeepEnds }
+{}
+
+/// In a sound world each running transfer has a step due.
+pub fn running_transfers_have_steps()
+    ensures { RunningTransfersHaveSteps }
+{}
+
+/// In a sound world the program finds no step exactly where none is due.
+pub fn idle_is_exact()
+    ensures { IdleIsExact }
+{}
+
+/// Each deed that begins in a sound world and can be asked for leaves identities of numbers that were given.
+pub fn deeds_keep_numbers()
+    ensures { DeedsKeepNumbers }
+{}
+
+/// So does a restart of a sound world.
+pub fn restarts_keep_numbers()
+    ensures { RestartsKeepNumbers }
+{}
+
+/// A deed that begins in a sound world drops exactly the snapshots that the rules name for it.
+pub fn drops_are_named()
+    ensures { DropsAreNamed }
+{}
