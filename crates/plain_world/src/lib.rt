@@ -1,9 +1,10 @@
 //! A world with whole images, as plain lists, and what is asked of it.
-//!
-//! Each function answers its definition. They copy whole images and look through whole lists: they are
-//! there to try the definitions on small worlds, and for faster code to be compared with.
 #![tactic(auto)]
 
+mod blocks;
+mod edges;
 mod values;
 
-pub use values::{PlainFault, PlainVolume, PlainWorld};
+pub use blocks::{free, free_tags, tags_of, used};
+pub use edges::is_rw;
+pub use values::{PlainEdges, PlainFault, PlainVolume, PlainWorld};

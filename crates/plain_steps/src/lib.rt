@@ -1,0 +1,18 @@
+//! Due steps of a world with whole images: which they are, what they do, and which one this program takes.
+//!
+//! Each function answers its definition, slowly and over whole lists.
+#![tactic(auto)]
+
+mod due;
+mod kinds;
+mod running;
+mod shipping;
+mod values;
+
+pub use due::{kind_due, reserved_leg};
+pub use kinds::PlainKind;
+pub use running::running_in;
+pub use shipping::{
+    all_landed, at_checkpoint, bases, cost, landed_prefix, landing, shippable, small, snapshot_of,
+};
+pub use values::PlainRunning;
