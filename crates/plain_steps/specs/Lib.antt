@@ -1,2 +1,3 @@
-pub mod Kinds
 pub mod Seen
+pub mod Kinds
+pub mod Changes

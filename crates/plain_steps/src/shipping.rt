@@ -83,7 +83,7 @@ fn length_of_cost(alloc: Global, x: &PlainRunning, leg: &PlainSnapshot) -> Resul
 }
 
 /// A number where it fits 32 bits.
-pub fn small(number: usize) -> Result<u32, PlainFault>
+pub fn small(number: u64) -> Result<u32, PlainFault>
     ensures { IfOk result (λ same. same ≡ number) }
 {
     match u32::try_from(number) {
@@ -96,7 +96,7 @@ pub fn small(number: usize) -> Result<u32, PlainFault>
 pub fn cost(alloc: Global, x: &PlainRunning, leg: &PlainSnapshot) -> Result<u32, PlainFault>
     ensures { IfOk result (λ count. count ≡ cost (running_of x.now) leg.now) }
 {
-    small(length_of_cost(alloc, x, leg)?)
+    small(length_of_cost(alloc, x, leg)? as u64)
 }
 
 /// What a leg becomes at the destination.
