@@ -1,9 +1,16 @@
 -- What a plain change makes of a world.
-use Rattle.std.specs.Prelude.{◌≡◌, ℕ, List, [], ◌∷◌, Option, None, Some}
+use Rattle.std.specs.Prelude.{◌≡◌, ℕ, List, [], ◌∷◌, nat_lt, Option, None, Some, if◌then◌else◌}
 use Rattle.sm_base.specs.declared.numbers.Ident.{Ident}
-use Rattle.sm_defs.specs.Relationship.{Relationship, Transfer}
+use Rattle.sm_base.specs.declared.refusal.Reason.{Reason}
+use Rattle.sm_base.specs.declared.refusal.Reason.TheVariants as reasons
+use Rattle.sm_defs.specs.Limits.{most_snapshots}
+use Rattle.sm_defs.specs.Volume.{Snapshot}
+use Rattle.sm_defs.specs.Relationship.{Relationship, Transfer, is_mirror}
 use Rattle.sm_defs.specs.World.{Up, with_volume, with_relation}
-use Rattle.sm_model.specs.Steps.{Effect}
+use Rattle.sm_model.specs.OfTransfers.{first_held}
+use Rattle.sm_model.specs.Running.{Running}
+use Rattle.sm_model.specs.Steps.{Effect, family_of_transfer}
+use Rattle.sm_model.specs.Due.{held_reason, reason_if, has_other_family}
 use Rattle.plain_steps.specs.declared.change.PlainPlaced.{PlainPlaced}
 use Rattle.plain_steps.specs.declared.change.PlainChange.{PlainChange}
 
@@ -32,3 +39,15 @@ with_transfer_or_none r t = record r { transfer = t }
 abbrev pub transfer_behind : Transfer → List Ident → Option Transfer
 transfer_behind t [] = None
 transfer_behind t (i ∷ is) = Some (record t { legs = i ∷ is; checkpoint = 0; landed = [] })
+
+-- why the first of some snapshots may not go that somebody needs
+abbrev pub reason_of_held : (Ident → Option Relationship) → List Snapshot → Option Reason
+reason_of_held who ss = held_reason (first_held who ss) None
+
+-- of the destination that goes back to its base
+abbrev pub family_reverted : Running → ℕ
+family_reverted x = if is_mirror x.policy.kind then x.destination.family else family_of_transfer x.transfer.number
+
+-- a destination whose list would be this long
+abbrev pub reason_of_count : Running → ℕ → Option Reason
+reason_of_count x count = reason_if (nat_lt most_snapshots count) reasons.SnapFull (reason_if (has_other_family x) reasons.OtherLayout None)

@@ -16,3 +16,17 @@ pub struct PlainChange {
     pub volume: Option<PlainPlaced>,
     pub relation: Option<WorldRelation>,
 }
+
+/// A change, and the place of the relationship whose transfer it is a step of; of a Tidy any place.
+#[derive(Drop)]
+pub struct PlainChoice {
+    pub at: usize,
+    pub change: PlainChange,
+}
+
+/// A relationship and its place.
+#[derive(Clone, Copy)]
+pub struct PlainFound<'a> {
+    pub at: usize,
+    pub relation: &'a WorldRelation,
+}

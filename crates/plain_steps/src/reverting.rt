@@ -1,9 +1,9 @@
 // The steps that let a destination's snapshots go before anything is shipped.
-ghost use Rattle.std.specs.Prelude.{◌≡◌, ◌-◌, ℕ, not, true, IfOk};
+ghost use Rattle.std.specs.Prelude.{◌≡◌, ◌-◌, ◌∷◌, ℕ, not, true, IfOk};
 ghost use Rattle.std.specs.List.{filter};
 ghost use Rattle.sm_defs.specs.Words.{same_ident, up_to};
 ghost use Rattle.sm_defs.specs.Relationship.{sends_all};
-ghost use Rattle.sm_defs.specs.Volume.{has};
+ghost use Rattle.sm_defs.specs.Volume.{has, without};
 ghost use Rattle.sm_defs.specs.Needed.{holder};
 ghost use Rattle.sm_model.specs.OfTransfers.{past, as_reverted};
 ghost use Rattle.sm_model.specs.Steps.{reverted, family_of_transfer};
@@ -52,15 +52,24 @@ fn past(snapshots: &[PlainSnapshot], ident: Ident) -> &[PlainSnapshot]
     }
 }
 
-fn copy_all(alloc: Global, snapshots: &[PlainSnapshot]) -> Result<Vec<PlainSnapshot>, NoMemory>
+pub(crate) fn with_first(
+    first: PlainSnapshot,
+    mut others: Vec<PlainSnapshot>,
+) -> Result<Vec<PlainSnapshot>, NoMemory>
+    ensures { IfOk result (λ all. all.items ≡ first ∷ others.items) }
+{
+    others.insert(0, first)?;
+    Ok(others)
+}
+
+pub(crate) fn copy_all(alloc: Global, snapshots: &[PlainSnapshot]) -> Result<Vec<PlainSnapshot>, NoMemory>
     ensures { IfOk result (λ all. all.items ≡ snapshots.now) }
 {
     match snapshots {
         [] => Ok(Vec::new(alloc)),
         [snapshot, newer @ ..] => {
-            let mut all = copy_all(alloc, newer)?;
-            all.insert(0, snapshot.copy(alloc)?)?;
-            Ok(all)
+            let all = copy_all(alloc, newer)?;
+            with_first(snapshot.copy(alloc)?, all)
         }
     }
 }
@@ -75,13 +84,12 @@ fn up_to(
     match snapshots {
         [] => Ok(Vec::new(alloc)),
         [snapshot, newer @ ..] => {
-            let mut all = if is_same(snapshot.ident, ident) {
-                Vec::new(alloc)
+            let first = snapshot.copy(alloc)?;
+            if is_same(snapshot.ident, ident) {
+                with_first(first, Vec::new(alloc))
             } else {
-                up_to(alloc, newer, ident)?
-            };
-            all.insert(0, snapshot.copy(alloc)?)?;
-            Ok(all)
+                with_first(first, up_to(alloc, newer, ident)?)
+            }
         }
     }
 }
@@ -216,6 +224,12 @@ fn goes(world: &PlainWorld, x: &PlainRunning, snapshot: &PlainSnapshot) -> bool
         && (!has_copy(&source.snapshots, snapshot.ident) || !covered)
 }
 
+fn stays(world: &PlainWorld, x: &PlainRunning, snapshot: &PlainSnapshot) -> bool
+    ensures { result ≡ not (goes world.now (running_of x.now) snapshot.now) }
+{
+    !goes(world, x, snapshot)
+}
+
 fn unpruned_of(
     alloc: Global,
     world: &PlainWorld,
@@ -227,11 +241,12 @@ fn unpruned_of(
     match snapshots {
         [] => Ok(Vec::new(alloc)),
         [snapshot, newer @ ..] => {
-            let mut all = unpruned_of(alloc, world, x, newer)?;
-            if !goes(world, x, snapshot) {
-                all.insert(0, snapshot.copy(alloc)?)?;
+            let all = unpruned_of(alloc, world, x, newer)?;
+            if stays(world, x, snapshot) {
+                with_first(snapshot.copy(alloc)?, all)
+            } else {
+                Ok(all)
             }
-            Ok(all)
         }
     }
 }
@@ -258,6 +273,12 @@ pub(crate) fn with_snapshots(
     })
 }
 
+fn is_lost(source: &[PlainSnapshot], ident: Ident) -> bool
+    ensures { result ≡ not (has source.now ident) }
+{
+    !has_copy(source, ident)
+}
+
 fn lost(
     alloc: Global,
     source: &[PlainSnapshot],
@@ -268,11 +289,12 @@ fn lost(
     match destination {
         [] => Ok(Vec::new(alloc)),
         [snapshot, newer @ ..] => {
-            let mut all = lost(alloc, source, newer)?;
-            if !has_copy(source, snapshot.ident) {
-                all.insert(0, snapshot.copy(alloc)?)?;
+            let all = lost(alloc, source, newer)?;
+            if is_lost(source, snapshot.ident) {
+                with_first(snapshot.copy(alloc)?, all)
+            } else {
+                Ok(all)
             }
-            Ok(all)
         }
     }
 }
@@ -315,6 +337,19 @@ fn prune_reason(
     }
 }
 
+/// The destination without what goes.
+fn pruned(
+    alloc: Global,
+    world: &PlainWorld,
+    x: &PlainRunning,
+) -> Result<PlainVolume, NoMemory>
+    ensures { IfOk result (λ volume. volume ≡ without (goes world.now (running_of x.now)) (running_of x.now).destination) }
+{
+    let destination = x.destination;
+    let stay = unpruned_of(alloc, world, x, &destination.snapshots)?;
+    with_snapshots(alloc, destination, stay)
+}
+
 fn with_pruned(alloc: Global, transfer: &WorldTransfer) -> Result<WorldTransfer, NoMemory>
     ensures { IfOk result (λ next. next ≡ record transfer.now { pruned = true }) }
 {
@@ -344,9 +379,8 @@ pub(crate) fn prune(
     match prune_reason(alloc, world, x)? {
         Some(reason) => interrupt(alloc, x, reason),
         None => {
-            let stay = unpruned_of(alloc, world, x, &destination.snapshots)?;
-            let gone = dropped(destination.snapshots.len(), stay.len())?;
-            let volume = with_snapshots(alloc, destination, stay)?;
+            let volume = pruned(alloc, world, x)?;
+            let gone = dropped(destination.snapshots.len(), volume.snapshots.len())?;
             let next = with_pruned(alloc, x.transfer)?;
             Ok(PlainChange {
                 reply: Reply::Pruned {
