@@ -34,3 +34,9 @@ IsActed old actor event reply new = IsReached old (answer old event) reply new
 abbrev pub AreActed : Up → List Entry → Up → Type 0
 AreActed old [] new = new ≡ old
 AreActed old (e ∷ es) new = (mid : Up) × IsActed old e.actor e.event e.reply mid × AreActed mid es new
+
+-- a worker's step or a restart
+unfoldable pub IsUnanswered : Event → Type 0
+IsUnanswered (events.Work shown) = Unit {0}
+IsUnanswered events.Restart = Unit {0}
+IsUnanswered event = ⊥
