@@ -1,5 +1,5 @@
 -- Which due step this program takes for an actor.
-use Rattle.std.specs.Prelude.{ℕ, suc, ◌+◌, ◌%◌, Bool, List, [], ◌∷◌, length, slice_get, Option, Some, None, cond}
+use Rattle.std.specs.Prelude.{ℕ, suc, ◌+◌, ◌%◌, List, [], ◌∷◌, length, slice_get, Option, Some, None, cond}
 use Rattle.std.specs.List.{filter, find}
 use Rattle.sm_defs.specs.Limits.{window}
 use Rattle.sm_defs.specs.Volume.{Snapshot, numbers}

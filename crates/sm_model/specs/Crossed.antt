@@ -5,7 +5,7 @@ use Rattle.std.specs.Option.{option_map}
 use Rattle.sm_base.specs.declared.numbers.Ident.{Ident}
 use Rattle.sm_base.specs.declared.numbers.Kind.TheVariants.{Dp}
 use Rattle.sm_defs.specs.Words.{Among, KeysDiffer}
-use Rattle.sm_defs.specs.Volume.{Volume, has}
+use Rattle.sm_defs.specs.Volume.{has}
 use Rattle.sm_defs.specs.Relationship.{Relationship, Transfer, is_mirror}
 use Rattle.sm_defs.specs.Legs.{made_ident}
 use Rattle.sm_defs.specs.World.{Up, volume_at, policy_at}

@@ -1,12 +1,12 @@
 -- Which steps are due, and what they do.
-use Rattle.std.specs.Prelude.{◌≡◌, ℕ, suc, ◌-◌, ◌==◌, ◌&&◌, ◌||◌, not, nat_lt, Bool, true, false, List, [], ◌∷◌, length, Option, Some, None, if◌then◌else◌}
+use Rattle.std.specs.Prelude.{◌≡◌, ℕ, suc, ◌-◌, ◌==◌, ◌&&◌, not, nat_lt, Bool, true, false, List, [], ◌∷◌, length, Option, Some, None, if◌then◌else◌}
 use Rattle.std.specs.List.{list_any, filter}
 use Rattle.sm_base.specs.declared.numbers.Ident.{Ident}
 use Rattle.sm_base.specs.declared.refusal.Reason.{Reason}
 use Rattle.sm_base.specs.declared.refusal.Reason.TheVariants as reasons
 use Rattle.sm_model.specs.declared.reply.Reply.TheVariants as replies
 use Rattle.sm_defs.specs.Limits.{most_snapshots}
-use Rattle.sm_defs.specs.Volume.{Volume, Snapshot, is_rw, has, without, free}
+use Rattle.sm_defs.specs.Volume.{Snapshot, is_rw, has, without, free}
 use Rattle.sm_defs.specs.Relationship.{Relationship, is_mirror, is_resync}
 use Rattle.sm_defs.specs.Legs.{made_ident}
 use Rattle.sm_defs.specs.Pruning.{is_pruned, is_made}
@@ -103,7 +103,9 @@ revert_reason w x base =
 
 abbrev pub revert_effect : Up → ℕ → Running → Snapshot → Effect
 revert_effect w k x base = unless w k x (revert_reason w x base.ident) (record {
-  reply = replies.Reverted (number_of x) (dropped x.destination.snapshots (reverted x base).snapshots); world = with_destination w x (reverted x base) })
+  reply = replies.Reverted (number_of x) (dropped x.destination.snapshots (reverted x base).snapshots);
+  world = with_destination w x (reverted x base);
+})
 
 -- Settle: a published leg becomes the base, and with the last leg the transfer ends
 abbrev pub finish_effect : Up → ℕ → Running → Ident → Effect
@@ -125,7 +127,8 @@ prepare_reason x =
 abbrev pub prepare_effect : Up → ℕ → Running → Ident → Effect
 prepare_effect w k x i = unless w k x (prepare_reason x) (record {
   reply = replies.Prepared (number_of x) i;
-  world = with_volume w x.relation.source (with_snapshot x.source (prepared_snapshot w x i)) })
+  world = with_volume w x.relation.source (with_snapshot x.source (prepared_snapshot w x i));
+})
 
 -- a mirror whose destination has snapshots has the source's family
 abbrev pub has_other_family : Running → Bool
@@ -145,7 +148,8 @@ prune_reason w x =
 abbrev pub prune_effect : Up → ℕ → Running → Effect
 prune_effect w k x = let v = without (goes w x) x.destination in unless w k x (prune_reason w x) (record {
   reply = replies.Pruned (number_of x) (dropped x.destination.snapshots v.snapshots);
-  world = with_progress (with_destination w x v) k x (record x.transfer { pruned = true }) })
+  world = with_progress (with_destination w x v) k x (record x.transfer { pruned = true });
+})
 
 -- Publish
 abbrev pub publish_reason : Up → Running → Snapshot → Option Reason
@@ -156,13 +160,15 @@ publish_reason w x leg =
 abbrev pub publish_effect : Up → ℕ → Running → Snapshot → Effect
 publish_effect w k x leg = unless w k x (publish_reason w x leg) (record {
   reply = replies.Published (number_of x) leg.ident (suc (length x.destination.snapshots) - length (published w x leg).snapshots);
-  world = with_destination w x (published w x leg) })
+  world = with_destination w x (published w x leg);
+})
 
 -- Checkpoint
 abbrev pub checkpoint_effect : Up → ℕ → Running → Effect
 checkpoint_effect w k x = record {
   reply = replies.Checked (number_of x) (landed_prefix x.transfer.landed);
-  world = with_progress w k x (record x.transfer { checkpoint = landed_prefix x.transfer.landed }) }
+  world = with_progress w k x (record x.transfer { checkpoint = landed_prefix x.transfer.landed });
+}
 
 -- Ship
 abbrev pub insert_landed : ℕ → List ℕ → List ℕ
@@ -177,7 +183,8 @@ ship_reason x need =
 abbrev pub ship_effect : Up → ℕ → Running → Snapshot → ℕ → Effect
 ship_effect w k x leg index = unless w k x (ship_reason x (cost x leg)) (record {
   reply = replies.Shipped (number_of x) index (cost x leg);
-  world = with_progress w k x (record x.transfer { landed = insert_landed index x.transfer.landed }) })
+  world = with_progress w k x (record x.transfer { landed = insert_landed index x.transfer.landed });
+})
 
 -- the effect is one of this step: any index that may be shipped may be
 abbrev pub IsEffect : Up → ℕ → Running → StepKind → Effect → Type 0
@@ -201,7 +208,9 @@ tidy_due w i = nat_lt i (length w.volumes) && is_rw (volume_at w i).kind && list
 
 abbrev pub tidy_effect : Up → ℕ → Effect
 tidy_effect w i = let v = without (is_tidied w i) (volume_at w i) in record {
-  reply = replies.Tidied (volno i) (dropped (volume_at w i).snapshots v.snapshots); world = with_volume w i v }
+  reply = replies.Tidied (volno i) (dropped (volume_at w i).snapshots v.snapshots);
+  world = with_volume w i v;
+}
 
 -- ---- all due steps
 

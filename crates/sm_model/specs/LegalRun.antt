@@ -13,7 +13,6 @@ use Rattle.sm_model.specs.declared.reply.Reply.TheVariants as replies
 use Rattle.sm_defs.specs.World.{Up}
 use Rattle.sm_model.specs.Answers.{Answer, Tells}
 use Rattle.sm_model.specs.Answer.{answer}
-use Rattle.sm_model.specs.Steps.{Effect}
 use Rattle.sm_model.specs.Due.{IsStep, IsIdle}
 use Rattle.sm_model.specs.Choice.{chosen}
 use Rattle.sm_model.specs.InRange.{IsGiven, IsThere}

@@ -22,14 +22,23 @@ already (Some r) = Err (refusals.AlreadyDestination (relno r.item.number))
 -- with both halves and no base
 abbrev pub new_relation : ℕ → ℕ → ℕ → ℕ → Relationship
 new_relation number source destination policy = record {
-  number = number; source = source; destination = destination; policy = policy; source_half = true; destination_half = true;
-  quiesced = false; base = None; transfer = None;
+  number = number;
+  source = source;
+  destination = destination;
+  policy = policy;
+  source_half = true;
+  destination_half = true;
+  quiesced = false;
+  base = None;
+  transfer = None;
 }
 
 -- its number is never given again
 abbrev pub with_new_relation : Up → ℕ → ℕ → ℕ → Up
 with_new_relation w source destination policy = record w {
-  next_relation = suc w.next_relation; relations = w.relations ++ new_relation w.next_relation source destination policy ∷ [] }
+  next_relation = suc w.next_relation;
+  relations = w.relations ++ new_relation w.next_relation source destination policy ∷ [];
+}
 
 -- an edge from source to destination would close a walk
 abbrev pub closes : List Edge → ℕ → ℕ → Bool

@@ -44,7 +44,15 @@ room_for p there sent = refused_rule (cond (is_mirror p.kind) None (keep_reached
 
 abbrev pub new_transfer : ℕ → TransferKind → Legs → Transfer
 new_transfer number kind ls = record {
-  number = number; kind = kind; reserved = ls.reserved; checkpoint = 0; legs = ls.idents; stopped = None; landed = []; pruned = false }
+  number = number;
+  kind = kind;
+  reserved = ls.reserved;
+  checkpoint = 0;
+  legs = ls.idents;
+  stopped = None;
+  landed = [];
+  pruned = false;
+}
 
 -- it runs on from its checkpoint
 abbrev pub resumed : Transfer → Transfer

@@ -50,9 +50,12 @@ family_of_transfer transfer = first_made_family + transfer
 -- the destination is read-only again, as it was at the base
 abbrev pub reverted : Running → Snapshot → Volume
 reverted x base = record x.destination {
-  kind = Dp; active = base.image; stable = base.image;
+  kind = Dp;
+  active = base.image;
+  stable = base.image;
   family = if is_mirror x.policy.kind then x.destination.family else family_of_transfer x.transfer.number;
-  snapshots = as_reverted x.policy base.ident x.destination.snapshots }
+  snapshots = as_reverted x.policy base.ident x.destination.snapshots;
+}
 
 abbrev pub made_name : ℕ → ℕ → List ℕ
 made_name relation transfer = codes "snapmirror." ++ decimal relation ++ codes "." ++ decimal transfer
@@ -60,7 +63,13 @@ made_name relation transfer = codes "snapmirror." ++ decimal relation ++ codes "
 -- the snapshot that a transfer makes
 abbrev pub prepared_snapshot : Up → Running → Ident → Snapshot
 prepared_snapshot w x i = record {
-  ident = i; name = made_name x.relation.number x.transfer.number; label = None; time = w.clock; maker = x.relation.number; image = x.source.active }
+  ident = i;
+  name = made_name x.relation.number x.transfer.number;
+  label = None;
+  time = w.clock;
+  maker = x.relation.number;
+  image = x.source.active;
+}
 
 -- the volume's snapshot of the identity
 abbrev pub snapshot_of : List Snapshot → Option Ident → Option Snapshot
@@ -76,7 +85,8 @@ image_or_none (Some s) = s.image
 abbrev pub bases : Running → Bases
 bases x = record {
   at_source = image_or_none (snapshot_of x.source.snapshots x.relation.base);
-  at_destination = image_or_none (snapshot_of x.destination.snapshots x.relation.base) }
+  at_destination = image_or_none (snapshot_of x.destination.snapshots x.relation.base);
+}
 
 -- how many blocks of the leg are to be shipped
 abbrev pub cost : Running → Snapshot → ℕ
@@ -107,8 +117,11 @@ list_published w x s = if is_mirror x.policy.kind then x.destination.snapshots +
 
 abbrev pub published : Up → Running → Snapshot → Volume
 published w x leg = record x.destination {
-  family = family_published w x leg.ident; active = landing x leg; stable = landing x leg;
-  snapshots = list_published w x (arrived x leg) }
+  family = family_published w x leg.ident;
+  active = landing x leg;
+  stable = landing x leg;
+  snapshots = list_published w x (arrived x leg);
+}
 
 -- it is one of the leg's blocks, has not landed, and is not too far past the checkpoint
 abbrev pub may_ship : Running → ℕ → ℕ → Bool

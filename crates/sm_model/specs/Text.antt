@@ -11,6 +11,7 @@ use Rattle.sm_base.specs.declared.numbers.PolicyKind.{PolicyKind}
 use Rattle.sm_base.specs.declared.numbers.PolicyKind.TheVariants.{AsyncMirror, Vault}
 use Rattle.sm_base.specs.declared.refusal.Reason.{Reason}
 use Rattle.sm_base.specs.declared.refusal.Reason.TheVariants as reasons
+use Rattle.sm_base.specs.declared.refusal.Refusal.{Refusal}
 use Rattle.sm_base.specs.declared.refusal.Refusal.TheVariants as refusals
 use Rattle.sm_defs.specs.declared.states.MirrorState.{MirrorState}
 use Rattle.sm_defs.specs.declared.states.MirrorState.TheVariants.{Uninitialized, Snapmirrored, BrokenOff}
@@ -207,11 +208,16 @@ down_or text (Some disk) = codes "report down disk=" then decimal disk
 abbrev pub report_text : the_reply.Reply → List ℕ
 report_text reply = down_or (reply_text reply) (down_disk reply)
 
+-- a disk failed, now or before
+unfoldable pub is_of_a_disk : Refusal → Bool
+is_of_a_disk (refusals.Down disk) = true
+is_of_a_disk (refusals.DiskFault disk faults) = true
+is_of_a_disk refusal = false
+
 -- of steps that are not shown, what ends them
 unfoldable pub ends_settling : the_reply.Reply → Option (List ℕ)
 ends_settling replies.Idle = Some (codes "settled")
-ends_settling (replies.Refused (refusals.Down disk)) = Some (refusal_text (refusals.Down disk))
-ends_settling (replies.Refused (refusals.DiskFault disk faults)) = Some (refusal_text (refusals.DiskFault disk faults))
+ends_settling (replies.Refused refusal) = if is_of_a_disk refusal then Some (refusal_text refusal) else None
 ends_settling reply = None
 
 -- what is printed, if anything

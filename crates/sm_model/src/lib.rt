@@ -15,5 +15,6 @@ pub use refusal_text::text_of_refusal;
 pub use reply::{Condition, Course, Entry, Line, Lines, Reply, Rules};
 pub use reply_text::{add_entry, text_of_reply};
 pub use world::{
-    OpenKind, World, WorldPolicy, WorldRelation, WorldRule, WorldSnapshot, WorldTransfer, WorldVolume,
+    OpenKind, World, WorldPolicy, WorldRelation, WorldRule, WorldSnapshot, WorldTransfer,
+    WorldVolume,
 };

@@ -1,6 +1,8 @@
 use crate::event::Event;
 use crate::world::WorldRule;
-use sm_base::{Block, Ident, Kind, Label, Path, Path1, PolicyKind, Reason, Refusal, RelNo, SnapName, VolNo};
+use sm_base::{
+    Block, Ident, Kind, Label, Path, Path1, PolicyKind, Reason, Refusal, RelNo, SnapName, VolNo,
+};
 use sm_defs::{MirrorState, Status4};
 use std::marker::Model;
 
@@ -116,19 +118,33 @@ impl Model for Lines {
 pub enum Reply {
     Done,
     /// The volume that was made.
-    Created { volume: VolNo },
+    Created {
+        volume: VolNo,
+    },
     /// The identity of the snapshot that was taken.
-    Snapped { ident: Ident },
+    Snapped {
+        ident: Ident,
+    },
     /// The relationship that was made.
-    Related { relation: RelNo },
+    Related {
+        relation: RelNo,
+    },
     /// The transfer that was started, and how many snapshots it is to send.
-    Started { transfer: u64, legs: u32 },
+    Started {
+        transfer: u64,
+        legs: u32,
+    },
     /// The transfer that goes on, and how many blocks its first leg has already.
-    Resumed { transfer: u64, checkpoint: u32 },
+    Resumed {
+        transfer: u64,
+        checkpoint: u32,
+    },
     /// There is nothing to transfer.
     Nothing,
     /// The transfer was stopped, and keeps so many blocks of its first leg.
-    Kept { checkpoint: u32 },
+    Kept {
+        checkpoint: u32,
+    },
     /// The transfer is gone.
     Ended,
     /// The transfer that was started, what it goes back to, and how many snapshots it is to send.
@@ -138,15 +154,26 @@ pub enum Reply {
         legs: u32,
     },
     /// The block that was read, in a box, so that an entry stays small.
-    Bytes { block: Box<Block> },
+    Bytes {
+        block: Box<Block>,
+    },
     Line(Line),
     Table(Lines),
     /// The destination went back to its base and let so many snapshots go.
-    Reverted { relation: RelNo, dropped: u32 },
+    Reverted {
+        relation: RelNo,
+        dropped: u32,
+    },
     /// The transfer's own snapshot was taken on the source.
-    Prepared { relation: RelNo, ident: Ident },
+    Prepared {
+        relation: RelNo,
+        ident: Ident,
+    },
     /// The destination let so many snapshots go.
-    Pruned { relation: RelNo, dropped: u32 },
+    Pruned {
+        relation: RelNo,
+        dropped: u32,
+    },
     /// A block went to the destination: which of the first leg's missing blocks, and how many these are.
     Shipped {
         relation: RelNo,
@@ -154,7 +181,10 @@ pub enum Reply {
         cost: u32,
     },
     /// So many blocks of the first leg are on the destination whatever happens.
-    Checked { relation: RelNo, prefix: u32 },
+    Checked {
+        relation: RelNo,
+        prefix: u32,
+    },
     /// The destination shows the snapshot, and let so many others go.
     Published {
         relation: RelNo,
@@ -168,9 +198,15 @@ pub enum Reply {
         ended: bool,
     },
     /// The volume let so many snapshots go that transfers had made.
-    Tidied { volume: VolNo, dropped: u32 },
+    Tidied {
+        volume: VolNo,
+        dropped: u32,
+    },
     /// The transfer cannot go on.
-    Interrupted { relation: RelNo, reason: Reason },
+    Interrupted {
+        relation: RelNo,
+        reason: Reason,
+    },
     /// No step is due.
     Idle,
     Refused(Refusal),

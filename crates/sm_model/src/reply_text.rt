@@ -1,7 +1,7 @@
 ghost use Rattle.std.specs.Prelude.{◌≡◌, ◌++◌, IfOk, OnOk, OnErr, string_bytes, ◌==◌};
 ghost use Rattle.std.specs.List.{list_all};
 ghost use Rattle.std.specs.Option.{option_map};
-ghost use Rattle.sm_model.specs.Text.{reply_text, entry_text, bytes_text, same_byte, table_lines, table_text, dropped_text, reason_text, ended_text, settled_text, down_disk as disk_of_down, report_text, ends_settling, shown_text, line_of_text};
+ghost use Rattle.sm_model.specs.Text.{reply_text, entry_text, bytes_text, same_byte, table_lines, table_text, dropped_text, reason_text, ended_text, settled_text, down_disk as disk_of_down, report_text, is_of_a_disk, ends_settling, shown_text, line_of_text};
 
 use crate::event::Event;
 use crate::line_text::{text_of_line, word_of_reason};
@@ -220,6 +220,18 @@ fn text_of_report(alloc: Global, reply: &Reply) -> Result<String, NoMemory>
     }
 }
 
+/// Whether a disk failed, now or before.
+#[tactic(auto, unfolding(crate::specs::Text::is_of_a_disk))]
+fn is_of_a_disk(refusal: &Refusal) -> bool
+    ensures { result ≡ is_of_a_disk refusal.now }
+{
+    match refusal {
+        Refusal::Down { .. } => true,
+        Refusal::DiskFault { .. } => true,
+        _ => false,
+    }
+}
+
 /// What is printed of steps that are not shown: the one that ends them.
 #[tactic(auto, unfolding(crate::specs::Text::ends_settling))]
 fn end_of_settling(alloc: Global, reply: &Reply) -> Result<Option<String>, NoMemory>
@@ -227,8 +239,13 @@ fn end_of_settling(alloc: Global, reply: &Reply) -> Result<Option<String>, NoMem
 {
     match reply {
         Reply::Idle => Ok(Some(String::from_str(alloc, "settled")?)),
-        Reply::Refused(Refusal::Down { .. }) => Ok(Some(text_of_reply(alloc, reply)?)),
-        Reply::Refused(Refusal::DiskFault { .. }) => Ok(Some(text_of_reply(alloc, reply)?)),
+        Reply::Refused(refusal) => {
+            if is_of_a_disk(refusal) {
+                Ok(Some(text_of_refusal(alloc, refusal)?))
+            } else {
+                Ok(None)
+            }
+        }
         _ => Ok(None),
     }
 }

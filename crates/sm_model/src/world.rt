@@ -1,6 +1,7 @@
 // A world as records spell it: images are maps of block numbers, and the bytes lie on the disks.
 use sm_base::{
-    DiskNo, Ident, Kind, Label, Path, Path1, PolicyKind, Reason, RelNo, SnapName, TransferKind, VolNo,
+    DiskNo, Ident, Kind, Label, Path, Path1, PolicyKind, Reason, RelNo, SnapName, TransferKind,
+    VolNo,
 };
 use std::marker::Model;
 
