@@ -8,8 +8,8 @@ ghost use Rattle.sm_defs.specs.Relationship.{rule_for};
 ghost use Rattle.sm_defs.specs.Missing.{rest, first_tag};
 
 use crate::values::{PlainBlock, PlainSnapshot};
-use sm_model::WorldRule;
 use sm_base::{Ident, NoMemory};
+use sm_model::WorldRule;
 
 /// Whether two texts are the same.
 pub fn same_text(one: &[u8], other: &[u8]) -> bool

@@ -5,7 +5,7 @@ use Rattle.std.proofs.Math.Seq.{take-length}
 use Rattle.std.specs.List.{list_any}
 use Rattle.sm_defs.specs.Relationship.{Relationship}
 use Rattle.sm_defs.specs.World.{Up}
-use Rattle.sm_defs.specs.Edges.{Edge, edge_of, leads, is_edge, is_mirror_edge}
+use Rattle.sm_defs.specs.Edges.{Edge, edge_of, leads, is_edge}
 use Rattle.plain_world.specs.declared.values.PlainEdges.{PlainEdges}
 use Rattle.plain_world.specs.declared.values.PlainEdges.TheVariants.{All, AllBut, Mirrors}
 use Rattle.plain_world.specs.Walks.{edges_among, is_walked, any_leads}
@@ -37,5 +37,5 @@ last_leads which w more n u v (q ∷ qs) r m l e h k s d =
     let b : (q.destination == v) ≡ false = ne_eqb q.destination v (subst (λ (x : Relationship). ¬ (x.destination ≡ v)) e d) in
     let F : Edge → Bool = λ x. (x.from == u) && ((x.to == v) || leads (edges_among which w w.relations) (suc n) x.to v) in
     let one : any_leads which w (suc n) u v (q ∷ qs) ≡ any_leads which w n q.destination v w.relations =
-        ap (list_any F) (walked_first which w q qs k') ∙ goes_on (q.source == u) (q.destination == v) (leads (edges_among which w w.relations) (suc n) q.destination v) (list_any F (edges_among which w qs)) a b h' in
+    ap (list_any F) (walked_first which w q qs k') ∙ goes_on (q.source == u) (q.destination == v) (leads (edges_among which w w.relations) (suc n) q.destination v) (list_any F (edges_among which w qs)) a b h' in
     ap (λ (x : Relationship). any_leads which w n x.destination v w.relations) e ∙ sym (ap (λ (i : ℕ). any_leads which w i u v (q ∷ qs)) m ∙ one)

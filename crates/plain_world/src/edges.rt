@@ -1,6 +1,5 @@
 // States of relationships, and where walks along them lead.
 ghost use Rattle.std.specs.Prelude.{◌≡◌, ◌≤◌, length};
-
 ghost use Rattle.sm_defs.specs.Volume.{is_rw};
 ghost use Rattle.sm_defs.specs.Relationship.{is_mirror};
 ghost use Rattle.sm_defs.specs.Edges.{mirror_state, state_of, is_snapmirrored, status, runs, is_edge, is_mirror_edge, upstream};

@@ -52,18 +52,11 @@ pub fn needed_at_source(
 pub fn needed_at_destination(volume: u32, ident: Ident, relation: &WorldRelation) -> bool
     ensures { (w : Up) → result ≡ needed_at_destination w volume ident relation.now }
 {
-    relation.destination_half
-        && relation.destination.0 == volume
-        && is_ident(relation.base, ident)
+    relation.destination_half && relation.destination.0 == volume && is_ident(relation.base, ident)
 }
 
 /// Whether a relationship needs a snapshot on a volume.
-pub fn needed_for(
-    world: &PlainWorld,
-    volume: u32,
-    ident: Ident,
-    relation: &WorldRelation,
-) -> bool
+pub fn needed_for(world: &PlainWorld, volume: u32, ident: Ident, relation: &WorldRelation) -> bool
     ensures { result ≡ needed_for world.now volume ident relation.now }
 {
     needed_at_source(world, volume, ident, relation)
