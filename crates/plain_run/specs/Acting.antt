@@ -11,6 +11,8 @@ use Rattle.sm_model.specs.Answer.{answer}
 use Rattle.sm_model.specs.Choice.{chosen}
 use Rattle.sm_model.specs.Opened.{opened}
 use Rattle.sm_model.specs.Steps.{Effect}
+use Rattle.sm_model.specs.Asked.{Asked}
+use Rattle.plain_run.specs.declared.asked.PlainAsked.{PlainAsked}
 use Rattle.plain_answers.specs.Answering.{IsAnswered}
 
 -- the event has an answer, and this is it
@@ -40,3 +42,6 @@ unfoldable pub IsUnanswered : Event → Type 0
 IsUnanswered (events.Work shown) = Unit {0}
 IsUnanswered events.Restart = Unit {0}
 IsUnanswered event = ⊥
+
+abbrev pub asked_for : PlainAsked → Asked
+asked_for a = record { actor = a.actor; line = a.line; event = a.event }

@@ -1,23 +1,16 @@
 ghost use Rattle.std.specs.Prelude.{◌≡◌, IfOk, map};
 ghost use Rattle.sm_model.specs.Asked.{asked_of};
-ghost use Rattle.plain_run.specs.Acting.{IsActed, AreActed};
+ghost use Rattle.plain_run.specs.Acting.{IsActed, AreActed, asked_for};
 
+use crate::asked::PlainAsked;
 use plain_answers::answer;
 use plain_steps::{open, step};
 use plain_world::{PlainFault, PlainWorld};
 use sm_model::{Entry, Event, Reply};
 use std::alloc::Global;
 
-/// What is asked, by whom, and for which line of a script, 0 for none.
-#[derive(Debug, Drop)]
-pub struct PlainAsked {
-    pub actor: u32,
-    pub line: u32,
-    pub event: Event,
-}
-
-/// Does one event for an actor. A worker's step is the one that this program chooses. `TooGreat` comes
-/// only where the world is not sound.
+/// Does one event for an actor. A worker's step is the one that this program chooses.
+#[tactic(auto, using(crate::proofs::Unanswered::unanswered), unfolding(crate::specs::Acting::IsActed, crate::specs::Acting::IsUnanswered))]
 pub fn act(
     world: &mut PlainWorld,
     alloc: Global,
@@ -37,6 +30,35 @@ pub fn act(
         _ => {
             open(world, alloc)?;
             Ok(Reply::Done)
+        }
+    }
+}
+
+/// Does the events of a list in order, and gives their entries.
+pub fn run(
+    world: &mut PlainWorld,
+    alloc: Global,
+    asked: &[PlainAsked],
+) -> Result<Vec<Entry>, PlainFault>
+    ensures acted { IfOk result (λ entries. AreActed world.old entries.items world.new) }
+    ensures asked { IfOk result (λ entries. map asked_of entries.items ≡ map asked_for asked.now) }
+{
+    match asked {
+        [] => Ok(Vec::new(alloc)),
+        [first, later @ ..] => {
+            let event = first.event.copy(alloc)?;
+            let reply = act(world, alloc, first.actor, &event)?;
+            let mut entries = run(world, alloc, later)?;
+            entries.insert(
+                0,
+                Entry {
+                    actor: first.actor,
+                    line: first.line,
+                    event,
+                    reply,
+                },
+            )?;
+            Ok(entries)
         }
     }
 }

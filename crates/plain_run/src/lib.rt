@@ -5,5 +5,7 @@
 #![tactic(auto)]
 
 mod acting;
+mod asked;
 
-pub use acting::{PlainAsked, act, run};
+pub use acting::{act, run};
+pub use asked::PlainAsked;
