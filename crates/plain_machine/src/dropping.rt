@@ -9,8 +9,8 @@ ghost use Rattle.sm_defs.specs.Common.{common};
 
 use crate::lists::{has_copy, has_rule_for, is_among, with_first};
 use crate::values::PlainSnapshot;
-use sm_model::WorldPolicy;
 use sm_base::{Ident, NoMemory};
+use sm_model::WorldPolicy;
 use std::alloc::Global;
 
 pub(crate) fn sends_all(policy: &WorldPolicy) -> bool

@@ -9,8 +9,8 @@ ghost use Rattle.sm_defs.specs.Retention.{retained, with_kept, keeps, labelled, 
 
 use crate::lists::{is_among, same_text, with_first};
 use crate::values::PlainSnapshot;
-use sm_model::WorldRule;
 use sm_base::{Ident, Label, NoMemory};
+use sm_model::WorldRule;
 use std::alloc::Global;
 
 fn is_label(label: &Option<Label>, text: &[u8]) -> bool

@@ -8,22 +8,25 @@ ghost use Rattle.sm_defs.specs.Relationship.{rule_for};
 ghost use Rattle.sm_defs.specs.Missing.{rest, first_tag};
 
 use crate::values::{PlainBlock, PlainSnapshot};
-use sm_model::WorldRule;
 use sm_base::{Ident, NoMemory};
+use sm_model::WorldRule;
 
-pub(crate) fn same_text(one: &[u8], other: &[u8]) -> bool
+/// Whether two texts are the same.
+pub fn same_text(one: &[u8], other: &[u8]) -> bool
     ensures { result ≡ bytes_eq one.now other.now }
 {
     one == other
 }
 
-pub(crate) fn is_same(one: Ident, other: Ident) -> bool
+/// Whether two identities are the same.
+pub fn is_same(one: Ident, other: Ident) -> bool
     ensures { result ≡ same_ident one other }
 {
     one.origin == other.origin && one.seq == other.seq
 }
 
-pub(crate) fn has_copy(snapshots: &[PlainSnapshot], ident: Ident) -> bool
+/// Whether one of the snapshots has the identity.
+pub fn has_copy(snapshots: &[PlainSnapshot], ident: Ident) -> bool
     ensures { result ≡ has snapshots.now ident }
 {
     match snapshots {
@@ -32,7 +35,8 @@ pub(crate) fn has_copy(snapshots: &[PlainSnapshot], ident: Ident) -> bool
     }
 }
 
-pub(crate) fn is_among(idents: &[Ident], ident: Ident) -> bool
+/// Whether the identity is among these.
+pub fn is_among(idents: &[Ident], ident: Ident) -> bool
     ensures { result ≡ has_ident idents.now ident }
 {
     match idents {
@@ -41,7 +45,8 @@ pub(crate) fn is_among(idents: &[Ident], ident: Ident) -> bool
     }
 }
 
-pub(crate) fn has_rule_for(rules: &[WorldRule], label: &[u8]) -> bool
+/// Whether a rule has the label.
+pub fn has_rule_for(rules: &[WorldRule], label: &[u8]) -> bool
     ensures { result ≡ is_some (rule_for rules.now (Some label.now)) }
 {
     match rules {

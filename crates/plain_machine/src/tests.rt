@@ -1,7 +1,7 @@
 use crate::{
-    PlainBases, PlainBlock, PlainSnapshot, PlainSource, candidates, common,
-    is_pruned, keep_reached, legs, mirror_cost, missing_places, missing_tags, pruned, retained,
-    vault_cost, vault_landing,
+    PlainBases, PlainBlock, PlainSnapshot, PlainSource, candidates, common, is_pruned,
+    keep_reached, legs, mirror_cost, missing_places, missing_tags, pruned, retained, vault_cost,
+    vault_landing,
 };
 use sm_base::{Ident, Kind, Label, Path1, PolicyKind, SnapName};
 use sm_model::{WorldPolicy, WorldRule};

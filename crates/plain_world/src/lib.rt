@@ -4,6 +4,16 @@
 //! there to try the definitions on small worlds, and for faster code to be compared with.
 #![tactic(auto)]
 
+mod blocks;
+mod edges;
+mod finding;
+mod needs;
 mod values;
 
-pub use values::{PlainFault, PlainVolume, PlainWorld};
+pub use blocks::{free, free_tags, tags_of, used};
+pub use edges::{is_edge, is_mirror_edge, is_rw, mirror_state, runs, status, upstream};
+pub use finding::{
+    kind_at, policy_kind_at, policy_named, relation_to, snapshots_at, volume_at, volume_named,
+};
+pub use needs::{holder, is_needed, needed_at_destination, needed_at_source, needed_for};
+pub use values::{PlainEdges, PlainFault, PlainVolume, PlainWorld};

@@ -1,6 +1,6 @@
 // A world with whole images, and why a plain function gives no answer.
 use plain_machine::{PlainBlock, PlainSnapshot};
-use sm_base::{DiskNo, Kind, NoMemory, Path};
+use sm_base::{DiskNo, Kind, NoMemory, Path, RelNo};
 use sm_model::{WorldPolicy, WorldRelation};
 use std::alloc::{AllocError, AllocFailed};
 use std::marker::Model;
@@ -50,6 +50,16 @@ impl Model for PlainWorld {
     ghost Value = { Up };
 
     ghost view = { λ w. record { clock = w.clock; next_relation = w.next_relation; next_transfer = w.next_transfer; volumes = w.volumes.items; policies = w.policies.items; relations = w.relations.items; disks = w.disks.items } };
+}
+
+/// Which relationships are edges of a walk.
+#[derive(Clone, Copy, Debug, PartialEq, Eq)]
+pub enum PlainEdges {
+    All,
+    /// All but those of a number.
+    AllBut(RelNo),
+    /// Those of mirrors that show a snapshot.
+    Mirrors,
 }
 
 /// Why a plain function gives no answer.
