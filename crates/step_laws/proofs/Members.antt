@@ -1,0 +1,44 @@
+-- What stands in a list after it was changed.
+use Rattle.std.proofs.Common.{◌≡◌, ◌⊎◌, ℕ, zero, suc, ◌==◌, ◌&&◌, ◌||◌, Bool, true, false, cond, not, List, [], ◌∷◌, ◌++◌, map, Option, Some, None, refl, ap, ap₂, sym, subst, inl, inr, eqb-true, eq-eqb, arith}
+use Rattle.std.proofs.lemmas.Bool.{and_parts, and_from, or_cases, or_left, or_right}
+use Rattle.std.proofs.lemmas.Option.{same_Some}
+use Rattle.std.specs.Prelude.{slice_get, slice_set, slice_index_or, length, ◌<◌}
+use Rattle.std.specs.List.{filter, list_any, flat_map}
+use Rattle.sm_base.specs.declared.numbers.Ident.{Ident}
+use Rattle.sm_defs.specs.Words.{Among, Found, found, next_place, same_ident}
+
+pub among_set : {X : Type 0} (xs : List X) (i : ℕ) (y x : X) → Among (slice_set xs i y) x → (x ≡ y) ⊎ Among xs x
+among_set [] i y x m = absurd m
+among_set (z ∷ xs) zero y x (inl e) = inl e
+among_set (z ∷ xs) zero y x (inr m) = inr (inr m)
+among_set (z ∷ xs) (suc i) y x (inl e) = inr (inl e)
+among_set (z ∷ xs) (suc i) y x (inr m) = go (among_set xs i y x m)
+  where
+    go : (x ≡ y) ⊎ Among xs x → (x ≡ y) ⊎ Among (z ∷ xs) x
+    go (inl e) = inl e
+    go (inr m) = inr (inr m)
+
+found_go : {X : Type 0} (xs : List X) (x : X) (b : Bool) (o : Option (Found X)) (f : Found X) → cond b (Some (record { at = 0; item = x })) (next_place o) ≡ Some f →
+    ((g : Found X) → o ≡ Some g → Among xs g.item) → Among (x ∷ xs) f.item
+found_go xs x true o f e h = inl (ap (λ g. g.item) (sym (same_Some _ f e)))
+found_go xs x false None f e h = absurd (cc)
+found_go xs x false (Some g) f e h = inr (subst (Among xs) (ap (λ g. g.item) (same_Some _ f e)) (h g refl))
+
+pub found_among : {X : Type 0} (p : X → Bool) (xs : List X) (f : Found X) → found p xs ≡ Some f → Among xs f.item
+found_among p [] f e = absurd (cc)
+found_among p (x ∷ xs) f e = found_go xs x (p x) (found p xs) f e (λ g. found_among p xs g)
+
+pub among_get_or : {X : Type 0} (xs : List X) (i : ℕ) (d : X) → i < length xs → Among xs (slice_index_or xs i d)
+among_get_or [] i d h = absurd (omega arith)
+among_get_or (x ∷ xs) zero d h = inl refl
+among_get_or (x ∷ xs) (suc i) d h = inr (among_get_or xs i d (omega arith))
+
+found_at_go : {X : Type 0} (d x : X) (xs : List X) (b : Bool) (o : Option (Found X)) (f : Found X) → cond b (Some (record { at = 0; item = x })) (next_place o) ≡ Some f →
+    ((g : Found X) → o ≡ Some g → slice_index_or xs g.at d ≡ g.item) → slice_index_or (x ∷ xs) f.at d ≡ f.item
+found_at_go d x xs true o f e h = subst (λ f. slice_index_or (x ∷ xs) f.at d ≡ f.item) (same_Some _ f e) refl
+found_at_go d x xs false None f e h = absurd (cc)
+found_at_go d x xs false (Some g) f e h = subst (λ f. slice_index_or (x ∷ xs) f.at d ≡ f.item) (same_Some _ f e) (h g refl)
+
+pub found_at : {X : Type 0} (p : X → Bool) (xs : List X) (f : Found X) (d : X) → found p xs ≡ Some f → slice_index_or xs f.at d ≡ f.item
+found_at p [] f d e = absurd (cc)
+found_at p (x ∷ xs) f d e = found_at_go d x xs (p x) (found p xs) f e (λ g. found_at p xs g d)

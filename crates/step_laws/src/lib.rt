@@ -1,0 +1,42 @@
+//! Laws of the definitions over one answer, one step, and the runs that they make.
+//!
+//! Each law is what a function without code ensures. The crate has no other code; its lemmas in
+//! `proofs/` are for the crates above.
+#![tactic(auto)]
+
+ghost use Rattle.step_laws.specs.Answering.{OpeningAgainChangesNothing, ShowingLeavesTheWorld, OkIsNoRefusal, StepsAreNoRefusals, DeedsAreNoRefusals, RefusalsLeaveTheWorld, ChosenIsDue};
+
+/// Opening a world that was just opened changes nothing.
+pub fn opening_again_changes_nothing()
+    ensures { OpeningAgainChangesNothing }
+{}
+
+/// Tables, reads and the report leave the world.
+pub fn showing_leaves_the_world()
+    ensures { ShowingLeavesTheWorld }
+{}
+
+/// An answer that is no refusal is never told as one.
+pub fn ok_is_no_refusal()
+    ensures { OkIsNoRefusal }
+{}
+
+/// No step's reply is a refusal: what bars a step interrupts its transfer.
+pub fn steps_are_no_refusals()
+    ensures { StepsAreNoRefusals }
+{}
+
+/// No deed's reply is a refusal.
+pub fn deeds_are_no_refusals()
+    ensures { DeedsAreNoRefusals }
+{}
+
+/// What is refused leaves the world, unless a device failed.
+pub fn refusals_leave_the_world()
+    ensures { RefusalsLeaveTheWorld }
+{}
+
+/// The step that this program chooses for an actor is due.
+pub fn chosen_is_due()
+    ensures { ChosenIsDue }
+{}
