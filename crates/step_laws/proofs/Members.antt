@@ -3,7 +3,7 @@ use Rattle.std.proofs.Common.{◌≡◌, ◌⊎◌, ℕ, zero, suc, ◌==◌, �
 use Rattle.std.proofs.lemmas.Bool.{and_parts, and_from, or_cases, or_left, or_right}
 use Rattle.std.proofs.lemmas.Option.{same_Some}
 use Rattle.std.specs.Prelude.{slice_get, slice_set, slice_index_or, length, ◌<◌}
-use Rattle.std.specs.List.{filter, list_any, flat_map}
+use Rattle.std.specs.List.{filter, find, list_any, flat_map}
 use Rattle.sm_base.specs.declared.numbers.Ident.{Ident}
 use Rattle.sm_defs.specs.Words.{Among, Found, found, next_place, same_ident}
 
@@ -42,3 +42,24 @@ found_at_go d x xs false (Some g) f e h = subst (λ f. slice_index_or (x ∷ xs)
 pub found_at : {X : Type 0} (p : X → Bool) (xs : List X) (f : Found X) (d : X) → found p xs ≡ Some f → slice_index_or xs f.at d ≡ f.item
 found_at p [] f d e = absurd (cc)
 found_at p (x ∷ xs) f d e = found_at_go d x xs (p x) (found p xs) f e (λ g. found_at p xs g d)
+
+pub get_among : {X : Type 0} (xs : List X) (i : ℕ) (x : X) → slice_get xs i ≡ Some x → Among xs x
+get_among [] i x e = absurd (cc)
+get_among (y ∷ ys) zero x e = inl (sym (same_Some y x e))
+get_among (y ∷ ys) (suc i) x e = inr (get_among ys i x e)
+
+find_go : {X : Type 0} (p : X → Bool) (z : X) (xs : List X) (x : X) (b : Bool) → p z ≡ b → cond b (Some z) (find p xs) ≡ Some x → (find p xs ≡ Some x → Among xs x × (p x ≡ true)) → Among (z ∷ xs) x × (p x ≡ true)
+find_go p z xs x true e f h = (inl (sym (same_Some z x f)), subst (λ y. p y ≡ true) (same_Some z x f) e)
+find_go p z xs x false e f h = let q = h f in (inr q.0, q.1)
+
+pub find_is : {X : Type 0} (p : X → Bool) (xs : List X) (x : X) → find p xs ≡ Some x → Among xs x × (p x ≡ true)
+find_is p [] x e = absurd (cc)
+find_is p (z ∷ xs) x e = find_go p z xs x (p z) refl e (find_is p xs x)
+
+find_none_go : {X : Type 0} (b : Bool) (r : X) (o : Option X) (c : Bool) → cond b (Some r) o ≡ None → (o ≡ None → c ≡ false) → (b || c) ≡ false
+find_none_go true r o c e h = absurd (cc)
+find_none_go false r o c e h = h e
+
+pub find_none : {X : Type 0} (p : X → Bool) (xs : List X) → find p xs ≡ None → list_any p xs ≡ false
+find_none p [] e = refl
+find_none p (x ∷ xs) e = find_none_go (p x) x (find p xs) (list_any p xs) e (find_none p xs)

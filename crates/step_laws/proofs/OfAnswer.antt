@@ -235,7 +235,7 @@ abort w d hard = with_target _ _ _ _ (λ d _ is. with_found _ _ _ _ (λ t e. pas
 resync : (w : Up) (d : List ℕ) → OfOk (Is w) (transfers.resync w d)
 unfolding made_by
 resync w d = with_target _ _ _ _ (λ t _ is. past _ _ _ _ (λ _. past _ _ _ _ (λ _. past _ _ _ _ (λ _. past _ _ _ _ (λ _. with_found _ _ _ _ (λ c _. with_held _ _ _ (λ _. with_held _ _ _ (λ _. past _ _ _ _ (λ _.
-    by_told w _ _ (record { makes_none = refl; accepted = λ r e. cc }) (starts t.relation (relation_at_place w _ t.relation is) _ (started w t.relation.item _ Resync _ refl refl))))))))))
+    by_told w _ _ (record { makes_none = refl; accepted = λ r e. cc }) (starts t.relation (relation_at_place w _ t.relation is) _ (started w t.relation.item _ Resync _ refl refl)))))))))))
 
 -- ---- all events
 
@@ -250,7 +250,7 @@ line w l = by_told w w _ (record { makes_none = refl; accepted = λ r e. cc }) (
 show_snapshots : (w : Up) (path : List ℕ) → OfOk (Is w) (reports.show_snapshots w path)
 show_snapshots w path = with_found _ _ _ _ (λ v _. table w _)
 
-pub OfAnswer : (Reached → Type 0) → Option Answer → Type 0
+unfoldable pub OfAnswer : (Reached → Type 0) → Option Answer → Type 0
 OfAnswer P None = Unit {0}
 OfAnswer P (Some a) = OfOk P a
 

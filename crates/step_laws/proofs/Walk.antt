@@ -14,7 +14,7 @@ use Rattle.sm_model.specs.Steps.{Effect, interrupts}
 use Rattle.sm_model.specs.Due.{unless}
 
 -- P of what is answered where nothing is refused
-pub OfOk : {A : Type 0} → (A → Type 0) → Result A Refusal → Type 0
+unfoldable pub OfOk : {A : Type 0} → (A → Type 0) → Result A Refusal → Type 0
 OfOk P (Ok x) = P x
 OfOk P (Err r) = Unit {0}
 

@@ -1,5 +1,5 @@
-use Rattle.step_laws.proofs.OfAnswer.{of_answer}
+use Rattle.step_laws.proofs.Deeds.{ok_is_no_refusal}
 use Rattle.step_laws.proofs.ok_is_no_refusal.Goals as goal
 
 pub returns : goal.returns
-returns c = ?
+returns c = ok_is_no_refusal
