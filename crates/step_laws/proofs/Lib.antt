@@ -6,3 +6,13 @@ pub mod Opening
 pub mod Showing
 pub mod Refused
 pub mod Choosing
+pub mod Needs
+pub mod NeedsStay
+pub mod Thinned
+pub mod Frames
+pub mod Tags
+pub mod Copies
+pub mod Fresh
+pub mod Parties
+pub mod DueCases
+pub mod Tmp

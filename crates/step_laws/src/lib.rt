@@ -5,6 +5,7 @@
 #![tactic(auto)]
 
 ghost use Rattle.step_laws.specs.Answering.{OpeningAgainChangesNothing, ShowingLeavesTheWorld, OkIsNoRefusal, StepsAreNoRefusals, DeedsAreNoRefusals, RefusalsLeaveTheWorld, ChosenIsDue};
+ghost use Rattle.step_laws.specs.Needs.{AnswersKeepTheNeeded, StepsKeepTheNeeded, DeedsKeepTheNeeded, RestartsKeepSnapshots};
 
 /// Opening a world that was just opened changes nothing.
 pub fn opening_again_changes_nothing()
@@ -39,4 +40,24 @@ pub fn refusals_leave_the_world()
 /// The step that this program chooses for an actor is due.
 pub fn chosen_is_due()
     ensures { ChosenIsDue }
+{}
+
+/// No answer drops a snapshot that some relationship needs.
+pub fn answers_keep_the_needed()
+    ensures { AnswersKeepTheNeeded }
+{}
+
+/// No step drops a snapshot that some relationship needs.
+pub fn steps_keep_the_needed()
+    ensures { StepsKeepTheNeeded }
+{}
+
+/// No deed drops a snapshot that some relationship needs.
+pub fn deeds_keep_the_needed()
+    ensures { DeedsKeepTheNeeded }
+{}
+
+/// A restart drops no snapshot.
+pub fn restarts_keep_snapshots()
+    ensures { RestartsKeepSnapshots }
 {}
