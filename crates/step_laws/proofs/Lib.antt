@@ -16,3 +16,5 @@ pub mod Fresh
 pub mod Parties
 pub mod DueCases
 pub mod Tmp
+pub mod Landing
+pub mod Brings

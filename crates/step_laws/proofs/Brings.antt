@@ -1,0 +1,146 @@
+-- What takes effect brings no snapshot but copies of those that stood, or one that is new.
+use Rattle.std.proofs.Common.{◌≡◌, ◌⊎◌, ◌<◌, ℕ, Bool, true, false, cond, List, [], ◌∷◌, ◌++◌, length, Option, Some, None, refl, sym, ap, subst, ◌∙◌, inl, inr, ltb-true}
+use Rattle.std.proofs.lemmas.Bool.{and_parts}
+use Rattle.sm_base.specs.declared.numbers.Ident.{Ident}
+use Rattle.sm_model.specs.declared.event.Event.{Event}
+use Rattle.sm_model.specs.declared.reply.Reply.{Reply}
+use Rattle.sm_defs.specs.Words.{Among, Found, found}
+use Rattle.sm_defs.specs.Thinned.{Thinned}
+use Rattle.sm_defs.specs.Volume.{Volume, Snapshot, no_volume, has, without}
+use Rattle.sm_defs.specs.World.{Up, volume_at, with_volume}
+use Rattle.sm_model.specs.World.{Deed}
+use Rattle.sm_model.specs.Answers.{Told, Tells}
+use Rattle.sm_model.specs.Standing.{Stands}
+use Rattle.sm_model.specs.CopiesAgree.{IsCopy}
+use Rattle.sm_model.specs.Sound.{SoundUp}
+use Rattle.sm_model.specs.Origin.{made_by}
+use Rattle.sm_model.specs.OfVolumes.{snapped, with_snapshot, client_snapshot}
+use Rattle.sm_model.specs.Running.{Running, IsRunning}
+use Rattle.sm_model.specs.Steps.{Effect, reverted, arrived, published, prepared_snapshot}
+use Rattle.sm_model.specs.Due.{StepKind, revert, finish, settle, prepare, prune, publish, checkpoint, ship, kind_due, reserved_leg, IsEffect, IsStep, by_transfer, by_tidy, is_tidied, tidy_due, goes}
+use Rattle.sm_model.specs.LegalRun.{IsStepDeed, IsDeed}
+use Rattle.transfer_laws.proofs.Lists.{among_append}
+use Rattle.step_laws.proofs.Walk.{going}
+use Rattle.step_laws.proofs.Members.{among_get_or}
+use Rattle.step_laws.proofs.Thinned.{all_kept, filter_thins, thinned_among}
+use Rattle.step_laws.proofs.Frames.{stands_set}
+use Rattle.step_laws.proofs.Copies.{ComesFrom, AllCome, stays}
+use Rattle.step_laws.proofs.Fresh.{client_fresh}
+use Rattle.step_laws.proofs.Parties.{relation_stands, source_stands, destination_stands, snapshot_is, lacked}
+use Rattle.step_laws.proofs.DueCases.{Ahead, IsDue, due_revert, due_finish, due_settle, due_prepare, due_prune, due_publish, due_checkpoint, due_ship, kind_is_due}
+use Rattle.step_laws.proofs.Landing.{reverted_thins, published_thins, landing_same}
+use Rattle.step_laws.proofs.OfAnswer as answers
+use Rattle.step_laws.proofs.OfAnswer.{IsChange, IsAnswer, VolumeAt}
+use Rattle.step_laws.proofs.Deeds.{IsAnswered, deed_cases}
+
+-- the snapshot is new, of what was active on its origin
+pub record IsNew (w : Up) (f : Snapshot) : Type 0 where
+  pub image : f.image ≡ (volume_at w f.ident.origin).active
+  pub fresh : (v : Volume) (s : Snapshot) → Stands w v s → ¬ (s.ident ≡ f.ident)
+
+pub data Brings (w : Up) (reply : Reply) (u : Up) : Type 0 where
+  copies : AllCome w u → made_by reply ≡ None → Brings w reply u
+  one_new : (f : Snapshot) → IsNew w f → ((v : Volume) (s : Snapshot) → Stands u v s → ComesFrom w s ⊎ (s ≡ f)) → made_by reply ≡ Some f.ident → Brings w reply u
+
+-- ---- answers
+
+-- a volume's list was thinned, and nothing else came
+pub come_thinned : (w : Up) (i : ℕ) (v u : Volume) → Among w.volumes v → Thinned u.snapshots v.snapshots → AllCome w (with_volume w i u)
+come_thinned w i v u m t = stands_set (ComesFrom w) w i u (λ s n. stays w v s (m, thinned_among t s n)) (stays w)
+
+come_pushed : (w : Up) (v : Volume) → v.snapshots ≡ [] → AllCome w (record w { volumes = w.volumes ++ v ∷ [] })
+come_pushed w v e u s (m, n) = go (among_append w.volumes (v ∷ []) u m)
+  where
+    go : Among w.volumes u ⊎ Among (v ∷ []) u → ComesFrom w s
+    go (inl k) = stays w u s (k, n)
+    go (inr (inl f)) = absurd (subst (λ ss. Among ss s) (ap (λ y. y.snapshots) f ∙ e) n)
+    go (inr (inr k)) = absurd k
+
+of_change : (w u : Up) → IsChange w u → AllCome w u
+of_change w u (answers.elsewhere other e f g) = λ v s h. stays w v s (subst (λ vs. Among vs v) e h.0, h.1)
+of_change w u (answers.creates path disk kind number logical physical) = come_pushed w _ refl
+of_change w u (answers.writes v a block fill) = come_thinned w v.at v.item _ a.among (all_kept v.item.snapshots)
+of_change w u (answers.drops v a i free) = come_thinned w v.at v.item _ a.among (filter_thins _ v.item.snapshots)
+of_change w u (answers.points v a) = come_thinned w v.at v.item _ a.among (all_kept v.item.snapshots)
+of_change w u (answers.breaks v a) = come_thinned w v.at v.item _ a.among (all_kept v.item.snapshots)
+of_change w u (answers.relates s d p) = stays w
+of_change w u (answers.changes r a q f) = stays w
+of_change w u (answers.halves r a q f) = stays w
+of_change w u (answers.starts r a q f) = stays w
+
+-- one snapshot came last to a volume
+come_one : (w : Up) (i : ℕ) (v u : Volume) (f : Snapshot) → Among w.volumes v → u.snapshots ≡ v.snapshots ++ f ∷ [] → (z : Volume) (s : Snapshot) → Stands (with_volume w i u) z s → ComesFrom w s ⊎ (s ≡ f)
+come_one w i v u f m e = stands_set (λ s. ComesFrom w s ⊎ (s ≡ f)) w i u (λ s n. each s (among_append v.snapshots (f ∷ []) s (subst (λ ss. Among ss s) e n))) (λ z s h. inl (stays w z s h))
+  where
+    each : (s : Snapshot) → Among v.snapshots s ⊎ Among (f ∷ []) s → ComesFrom w s ⊎ (s ≡ f)
+    each s (inl n) = inl (stays w v s (m, n))
+    each s (inr (inl g)) = inr g
+    each s (inr (inr n)) = absurd n
+
+of_snap : (w : Up) (v : Found Volume) (name : List ℕ) (label : Option (List ℕ)) → SoundUp w → VolumeAt w v → (p : Volume → Bool) → found p w.volumes ≡ Some v → (reply : Reply) → made_by reply ≡ Some (client_snapshot v.at w.clock v.item name label).ident →
+    Brings w reply (with_volume w v.at (snapped v.at w.clock v.item name label))
+of_snap w v name label s a p is reply e = one_new (client_snapshot v.at w.clock v.item name label)
+    (record { image = ap (λ y. y.active) (sym a.at); fresh = client_fresh w p v s.numbers_stand is })
+    (come_one w v.at v.item _ _ a.among refl) e
+
+of_answer : (w u : Up) (t : Told) → SoundUp w → IsAnswer w t u → (reply : Reply) → Tells t reply → Brings w reply u
+unfolding made_by
+of_answer w u t s (answers.plain p c) reply e = copies (of_change w u c) (p reply e).makes_none
+of_answer w u t s (answers.snaps v a p is name label) reply e = of_snap w v name label s a p is reply (rw e refl)
+
+-- ---- steps
+
+pub reserved_fresh : (w : Up) (k : ℕ) (x : Running) → SoundUp w → IsRunning w k x → x.transfer.reserved ≡ true → has x.source.snapshots (reserved_leg x) ≡ false →
+    (v : Volume) (t : Snapshot) → Stands w v t → ¬ (t.ident ≡ reserved_leg x)
+reserved_fresh w k x s r m h v t n = lacked v.snapshots (reserved_leg x) t
+    (s.numbers_stand.unmade x.relation x.transfer (relation_stands w k x r) r.transfer m (subst (λ v. has v.snapshots (reserved_leg x) ≡ false) (ap (λ y. y.source) r.is) h) v n.0) n.1
+
+of_publish : (w : Up) (k : ℕ) (x : Running) (leg : Snapshot) → SoundUp w → IsRunning w k x → Ahead x leg → AllCome w (with_volume w x.relation.destination (published w x leg))
+of_publish w k x leg s r a = stands_set (ComesFrom w) w x.relation.destination (published w x leg)
+    (λ t m. each t (among_append x.destination.snapshots (arrived x leg ∷ []) t (thinned_among (published_thins w x (arrived x leg)) t m))) (stays w)
+  where
+    there : Among x.source.snapshots leg
+    there = (snapshot_is x.source.snapshots a.i leg a.source).0
+    each : (t : Snapshot) → Among x.destination.snapshots t ⊎ Among (arrived x leg ∷ []) t → ComesFrom w t
+    each t (inl m) = stays w x.destination t (destination_stands w k x r s.crossed, m)
+    each t (inr (inl e)) = record { volume = x.source; snapshot = leg; stands = (source_stands w k x r s.crossed, there);
+      copy = subst (λ y. IsCopy y leg) (sym e) (record { ident = refl; name = refl; label = refl; time = refl; maker = refl; contents = landing_same w k x leg s r there }) }
+    each t (inr (inr m)) = absurd m
+
+abbrev By : Up → Effect → Type 0
+By w e = Brings w e.reply e.world
+
+thinned_at : (w : Up) (k : ℕ) (x : Running) (u : Volume) → SoundUp w → IsRunning w k x → Thinned u.snapshots x.destination.snapshots → AllCome w (with_volume w x.relation.destination u)
+thinned_at w k x u s r t = come_thinned w x.relation.destination x.destination u (destination_stands w k x r s.crossed) t
+
+of_effect : (w : Up) (k : ℕ) (x : Running) (kind : StepKind) (e : Effect) → SoundUp w → IsRunning w k x → IsDue x kind → IsEffect w k x kind e → By w e
+unfolding made_by
+of_effect w k x kind e s r (due_revert base a f) i = subst (By w) (sym i) (going (By w) w k x _ _ (λ _. copies (stays w) refl)
+    (λ _. copies (thinned_at w k x (reverted x base) s r (reverted_thins x.policy base.ident x.destination.snapshots)) refl))
+of_effect w k x kind e s r (due_finish base a f) i = subst (By w) (sym i) (copies (stays w) refl)
+of_effect w k x kind e s r (due_settle j later a f) i = subst (By w) (sym i) (copies (stays w) refl)
+of_effect w k x kind e s r (due_prepare a f) i = subst (By w) (sym i) (going (By w) w k x _ _ (λ _. copies (stays w) refl)
+    (λ _. one_new (prepared_snapshot w x (reserved_leg x)) (record { image = ap (λ y. y.source.active) r.is; fresh = reserved_fresh w k x s r a f })
+        (come_one w x.relation.source x.source (with_snapshot x.source (prepared_snapshot w x (reserved_leg x))) _ (source_stands w k x r s.crossed) refl) refl))
+of_effect w k x kind e s r (due_prune leg a b) i = subst (By w) (sym i) (going (By w) w k x _ _ (λ _. copies (stays w) refl)
+    (λ _. copies (thinned_at w k x (without (goes w x) x.destination) s r (filter_thins _ x.destination.snapshots)) refl))
+of_effect w k x kind e s r (due_publish leg a b c) i = subst (By w) (sym i) (going (By w) w k x _ _ (λ _. copies (stays w) refl) (λ _. copies (of_publish w k x leg s r a) refl))
+of_effect w k x kind e s r (due_checkpoint leg a b c d) i = subst (By w) (sym i) (copies (stays w) refl)
+of_effect w k x kind e s r (due_ship leg a b c d) (n, m, i) = subst (By w) (sym i) (going (By w) w k x _ _ (λ _. copies (stays w) refl) (λ _. copies (stays w) refl))
+
+-- a volume that is due to be tidied stands
+pub tidy_within : (w : Up) (n : ℕ) → tidy_due w n ≡ true → n < length w.volumes
+tidy_within w n d = ltb-true _ _ (and_parts _ _ (and_parts _ _ d).0).0
+
+pub step_brings : (w : Up) (e : Effect) → SoundUp w → IsStep w e → By w e
+unfolding made_by
+step_brings w e s (by_transfer k x kind r d i) = of_effect w k x kind e s r (kind_is_due x kind d) i
+step_brings w e s (by_tidy n d i) = subst (By w) (sym i)
+    (copies (come_thinned w n (volume_at w n) (without (is_tidied w n) (volume_at w n)) (among_get_or w.volumes n no_volume (tidy_within w n d)) (filter_thins _ (volume_at w n).snapshots)) refl)
+
+pub deed_brings : (e : Event) (d : Deed) → SoundUp d.old → IsDeed e d → Brings d.old d.reply d.new
+deed_brings e d s i = go (deed_cases e d i)
+  where
+    go : IsStepDeed d ⊎ IsAnswered d → Brings d.old d.reply d.new
+    go (inl t) = step_brings d.old _ s t
+    go (inr a) = of_answer d.old d.new a.tells s a.is d.reply a.reply
