@@ -14,7 +14,8 @@ use Rattle.sm_model.specs.Standing.{Stands}
 use Rattle.sm_model.specs.CopiesAgree.{IsCopy}
 use Rattle.sm_model.specs.Sound.{SoundUp}
 use Rattle.sm_model.specs.Origin.{made_by}
-use Rattle.sm_model.specs.OfVolumes.{snapped, with_snapshot, client_snapshot}
+use Rattle.sm_model.specs.declared.reply.Reply.TheVariants as replies
+use Rattle.sm_model.specs.OfVolumes.{client_ident, snapped, with_snapshot, client_snapshot}
 use Rattle.sm_model.specs.Running.{Running, IsRunning}
 use Rattle.sm_model.specs.Steps.{Effect, reverted, arrived, published, prepared_snapshot}
 use Rattle.sm_model.specs.Due.{StepKind, revert, finish, settle, prepare, prune, publish, checkpoint, ship, kind_due, reserved_leg, IsEffect, IsStep, by_transfer, by_tidy, is_tidied, tidy_due, goes}
@@ -56,7 +57,7 @@ come_pushed w v e u s (m, n) = go (among_append w.volumes (v ∷ []) u m)
     go (inr (inl f)) = absurd (subst (λ ss. Among ss s) (ap (λ y. y.snapshots) f ∙ e) n)
     go (inr (inr k)) = absurd k
 
-of_change : (w u : Up) → IsChange w u → AllCome w u
+pub of_change : (w u : Up) → IsChange w u → AllCome w u
 of_change w u (answers.elsewhere other e f g) = λ v s h. stays w v s (subst (λ vs. Among vs v) e h.0, h.1)
 of_change w u (answers.creates path disk kind number logical physical) = come_pushed w _ refl
 of_change w u (answers.writes v a block fill) = come_thinned w v.at v.item _ a.among (all_kept v.item.snapshots)
@@ -82,6 +83,11 @@ of_snap : (w : Up) (v : Found Volume) (name : List ℕ) (label : Option (List �
 of_snap w v name label s a p is reply e = one_new (client_snapshot v.at w.clock v.item name label)
     (record { image = ap (λ y. y.active) (sym a.at); fresh = client_fresh w p v s.numbers_stand is })
     (come_one w v.at v.item _ _ a.among refl) e
+
+pub snap_brings : (w : Up) (v : Found Volume) (name : List ℕ) (label : Option (List ℕ)) → SoundUp w → VolumeAt w v → (p : Volume → Bool) → found p w.volumes ≡ Some v →
+    Brings w (replies.Snapped (client_ident v.at v.item)) (with_volume w v.at (snapped v.at w.clock v.item name label))
+unfolding made_by
+snap_brings w v name label s a p is = of_snap w v name label s a p is _ refl
 
 of_answer : (w u : Up) (t : Told) → SoundUp w → IsAnswer w t u → (reply : Reply) → Tells t reply → Brings w reply u
 unfolding made_by

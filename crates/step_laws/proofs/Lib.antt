@@ -15,6 +15,10 @@ pub mod Copies
 pub mod Fresh
 pub mod Parties
 pub mod DueCases
-pub mod Tmp
 pub mod Landing
 pub mod Brings
+pub mod Merged
+pub mod VaultTags
+pub mod StepTags
+pub mod TagsStay
+pub mod CopiesStay

@@ -6,6 +6,7 @@
 
 ghost use Rattle.step_laws.specs.Answering.{OpeningAgainChangesNothing, ShowingLeavesTheWorld, OkIsNoRefusal, StepsAreNoRefusals, DeedsAreNoRefusals, RefusalsLeaveTheWorld, ChosenIsDue};
 ghost use Rattle.step_laws.specs.Needs.{AnswersKeepTheNeeded, StepsKeepTheNeeded, DeedsKeepTheNeeded, RestartsKeepSnapshots};
+ghost use Rattle.step_laws.specs.Copies.{AnswersKeepTags, StepsKeepTags, DeedsKeepTags, RestartsKeepTags, AnswersKeepCopies, StepsKeepCopies, DeedsKeepCopies, RestartsKeepCopies};
 
 /// Opening a world that was just opened changes nothing.
 pub fn opening_again_changes_nothing()
@@ -60,4 +61,44 @@ pub fn deeds_keep_the_needed()
 /// A restart drops no snapshot.
 pub fn restarts_keep_snapshots()
     ensures { RestartsKeepSnapshots }
+{}
+
+/// Each answer of a sound world leaves each volume with one place and one block for a number.
+pub fn answers_keep_tags()
+    ensures { AnswersKeepTags }
+{}
+
+/// So does each step.
+pub fn steps_keep_tags()
+    ensures { StepsKeepTags }
+{}
+
+/// So does each deed.
+pub fn deeds_keep_tags()
+    ensures { DeedsKeepTags }
+{}
+
+/// So does each restart.
+pub fn restarts_keep_tags()
+    ensures { RestartsKeepTags }
+{}
+
+/// Copies of one identity agree after each answer of a sound world.
+pub fn answers_keep_copies()
+    ensures { AnswersKeepCopies }
+{}
+
+/// They agree after each step of a sound world.
+pub fn steps_keep_copies()
+    ensures { StepsKeepCopies }
+{}
+
+/// They agree after each deed that begins in a sound world.
+pub fn deeds_keep_copies()
+    ensures { DeedsKeepCopies }
+{}
+
+/// They agree after a restart if they agreed before.
+pub fn restarts_keep_copies()
+    ensures { RestartsKeepCopies }
 {}
