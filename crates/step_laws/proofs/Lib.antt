@@ -22,3 +22,7 @@ pub mod VaultTags
 pub mod StepTags
 pub mod TagsStay
 pub mod CopiesStay
+pub mod NeededHere
+pub mod Goes
+pub mod Spent
+pub mod Tmp

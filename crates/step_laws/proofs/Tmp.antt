@@ -1,0 +1,1 @@
+use Rattle.step_laws.proofs.Spent.{standing_spent}
