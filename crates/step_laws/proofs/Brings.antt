@@ -1,5 +1,5 @@
 -- What takes effect brings no snapshot but copies of those that stood, or one that is new.
-use Rattle.std.proofs.Common.{◌≡◌, ◌⊎◌, ◌<◌, ℕ, Bool, true, false, cond, List, [], ◌∷◌, ◌++◌, length, Option, Some, None, refl, sym, ap, subst, ◌∙◌, inl, inr, ltb-true}
+use Rattle.std.proofs.Common.{◌≡◌, ◌⊎◌, ◌<◌, ℕ, Bool, true, false, cond, List, [], ◌∷◌, ◌++◌, length, Option, Some, None, refl, sym, ap, subst, ◌∙◌, inl, inr, ltb-true, arith, true≢false}
 use Rattle.std.proofs.lemmas.Bool.{and_parts}
 use Rattle.sm_base.specs.declared.numbers.Ident.{Ident}
 use Rattle.sm_model.specs.declared.event.Event.{Event}
@@ -20,13 +20,14 @@ use Rattle.sm_model.specs.Running.{Running, IsRunning}
 use Rattle.sm_model.specs.Steps.{Effect, reverted, arrived, published, prepared_snapshot}
 use Rattle.sm_model.specs.Due.{StepKind, revert, finish, settle, prepare, prune, publish, checkpoint, ship, kind_due, reserved_leg, IsEffect, IsStep, by_transfer, by_tidy, is_tidied, tidy_due, goes}
 use Rattle.sm_model.specs.LegalRun.{IsStepDeed, IsDeed}
-use Rattle.transfer_laws.proofs.Lists.{among_append}
+use Rattle.transfer_laws.proofs.Lists.{among_append, among_right, has_from_copy}
 use Rattle.step_laws.proofs.Walk.{going}
-use Rattle.step_laws.proofs.Members.{among_get_or}
+use Rattle.step_laws.proofs.Members.{among_get_or, found_within, length_set, set_at}
 use Rattle.step_laws.proofs.Thinned.{all_kept, filter_thins, thinned_among}
 use Rattle.step_laws.proofs.Frames.{stands_set}
 use Rattle.step_laws.proofs.Copies.{ComesFrom, AllCome, stays}
 use Rattle.step_laws.proofs.Fresh.{client_fresh}
+use Rattle.step_laws.proofs.Spent.{Spent, by_client, by_transfer as by_transfer_number}
 use Rattle.step_laws.proofs.Parties.{relation_stands, source_stands, destination_stands, snapshot_is, lacked}
 use Rattle.step_laws.proofs.DueCases.{Ahead, IsDue, due_revert, due_finish, due_settle, due_prepare, due_prune, due_publish, due_checkpoint, due_ship, kind_is_due}
 use Rattle.step_laws.proofs.Landing.{reverted_thins, published_thins, landing_same}
@@ -38,10 +39,11 @@ use Rattle.step_laws.proofs.Deeds.{IsAnswered, deed_cases}
 pub record IsNew (w : Up) (f : Snapshot) : Type 0 where
   pub image : f.image ≡ (volume_at w f.ident.origin).active
   pub fresh : (v : Volume) (s : Snapshot) → Stands w v s → ¬ (s.ident ≡ f.ident)
+  pub unspent : ¬ (Spent w f.ident)
 
 pub data Brings (w : Up) (reply : Reply) (u : Up) : Type 0 where
   copies : AllCome w u → made_by reply ≡ None → Brings w reply u
-  one_new : (f : Snapshot) → IsNew w f → ((v : Volume) (s : Snapshot) → Stands u v s → ComesFrom w s ⊎ (s ≡ f)) → made_by reply ≡ Some f.ident → Brings w reply u
+  one_new : (f : Snapshot) → IsNew w f → ((v : Volume) (s : Snapshot) → Stands u v s → ComesFrom w s ⊎ (s ≡ f)) → made_by reply ≡ Some f.ident → Spent u f.ident → Brings w reply u
 
 -- ---- answers
 
@@ -78,11 +80,20 @@ come_one w i v u f m e = stands_set (λ s. ComesFrom w s ⊎ (s ≡ f)) w i u (�
     each s (inr (inl g)) = inr g
     each s (inr (inr n)) = absurd n
 
+-- a client's number is above all that were given, and the next one is above it
+client_unspent : (w : Up) (v : Found Volume) → VolumeAt w v → ¬ (Spent w (client_ident v.at v.item))
+client_unspent w v a (by_client c e l h) = let n : (volume_at w v.at).next ≡ v.item.next = ap (λ y. y.next) a.at in omega arith
+client_unspent w v a (by_transfer_number number e l h) = omega arith
+
+client_spent : (w : Up) (v : Found Volume) (name : List ℕ) (label : Option (List ℕ)) → v.at < length w.volumes → Spent (with_volume w v.at (snapped v.at w.clock v.item name label)) (client_ident v.at v.item)
+client_spent w v name label l = by_client v.item.next refl (rw (length_set w.volumes v.at (snapped v.at w.clock v.item name label)) l)
+    (rw (set_at w.volumes v.at (snapped v.at w.clock v.item name label) no_volume l) (omega arith))
+
 of_snap : (w : Up) (v : Found Volume) (name : List ℕ) (label : Option (List ℕ)) → SoundUp w → VolumeAt w v → (p : Volume → Bool) → found p w.volumes ≡ Some v → (reply : Reply) → made_by reply ≡ Some (client_snapshot v.at w.clock v.item name label).ident →
     Brings w reply (with_volume w v.at (snapped v.at w.clock v.item name label))
 of_snap w v name label s a p is reply e = one_new (client_snapshot v.at w.clock v.item name label)
-    (record { image = ap (λ y. y.active) (sym a.at); fresh = client_fresh w p v s.numbers_stand is })
-    (come_one w v.at v.item _ _ a.among refl) e
+    (record { image = ap (λ y. y.active) (sym a.at); fresh = client_fresh w p v s.numbers_stand is; unspent = client_unspent w v a })
+    (come_one w v.at v.item _ _ a.among refl) e (client_spent w v name label (found_within p w.volumes v is))
 
 pub snap_brings : (w : Up) (v : Found Volume) (name : List ℕ) (label : Option (List ℕ)) → SoundUp w → VolumeAt w v → (p : Volume → Bool) → found p w.volumes ≡ Some v →
     Brings w (replies.Snapped (client_ident v.at v.item)) (with_volume w v.at (snapped v.at w.clock v.item name label))
@@ -100,6 +111,20 @@ pub reserved_fresh : (w : Up) (k : ℕ) (x : Running) → SoundUp w → IsRunnin
     (v : Volume) (t : Snapshot) → Stands w v t → ¬ (t.ident ≡ reserved_leg x)
 reserved_fresh w k x s r m h v t n = lacked v.snapshots (reserved_leg x) t
     (s.numbers_stand.unmade x.relation x.transfer (relation_stands w k x r) r.transfer m (subst (λ v. has v.snapshots (reserved_leg x) ≡ false) (ap (λ y. y.source) r.is) h) v n.0) n.1
+
+reserved_unspent : (w : Up) (k : ℕ) (x : Running) → IsRunning w k x → x.transfer.reserved ≡ true → has x.source.snapshots (reserved_leg x) ≡ false → ¬ (Spent w (reserved_leg x))
+reserved_unspent w k x r a f (by_client c e l h) = omega arith
+reserved_unspent w k x r a f (by_transfer_number number e l h) =
+    true≢false (sym (h x.relation x.transfer (relation_stands w k x r) r.transfer a refl) ∙ subst (λ v. has v.snapshots (reserved_leg x) ≡ false) (ap (λ y. y.source) r.is) f)
+
+reserved_spent : (w : Up) (k : ℕ) (x : Running) → SoundUp w → IsRunning w k x → Spent (with_volume w x.relation.source (with_snapshot x.source (prepared_snapshot w x (reserved_leg x)))) (reserved_leg x)
+reserved_spent w k x s r = by_transfer_number x.transfer.number refl (s.crossed.transfers x.relation x.transfer (relation_stands w k x r) r.transfer).given (λ q u m e z f.
+    let same : x.relation.source ≡ q.source = ap (λ i. i.origin) f in
+    let within : x.relation.source < length w.volumes = (s.crossed.relations x.relation (relation_stands w k x r)).source in
+    let new : Volume = with_snapshot x.source (prepared_snapshot w x (reserved_leg x)) in
+    subst (λ v. has (volume_at (with_volume w x.relation.source new) v).snapshots (reserved_leg x) ≡ true) same
+    (subst (λ v. has v.snapshots (reserved_leg x) ≡ true) (sym (set_at w.volumes x.relation.source new no_volume within))
+    (has_from_copy new.snapshots (reserved_leg x) (prepared_snapshot w x (reserved_leg x), among_right x.source.snapshots (prepared_snapshot w x (reserved_leg x) ∷ []) _ (inl refl), refl))))
 
 of_publish : (w : Up) (k : ℕ) (x : Running) (leg : Snapshot) → SoundUp w → IsRunning w k x → Ahead x leg → AllCome w (with_volume w x.relation.destination (published w x leg))
 of_publish w k x leg s r a = stands_set (ComesFrom w) w x.relation.destination (published w x leg)
@@ -126,8 +151,8 @@ of_effect w k x kind e s r (due_revert base a f) i = subst (By w) (sym i) (going
 of_effect w k x kind e s r (due_finish base a f) i = subst (By w) (sym i) (copies (stays w) refl)
 of_effect w k x kind e s r (due_settle j later a f) i = subst (By w) (sym i) (copies (stays w) refl)
 of_effect w k x kind e s r (due_prepare a f) i = subst (By w) (sym i) (going (By w) w k x _ _ (λ _. copies (stays w) refl)
-    (λ _. one_new (prepared_snapshot w x (reserved_leg x)) (record { image = ap (λ y. y.source.active) r.is; fresh = reserved_fresh w k x s r a f })
-        (come_one w x.relation.source x.source (with_snapshot x.source (prepared_snapshot w x (reserved_leg x))) _ (source_stands w k x r s.crossed) refl) refl))
+    (λ _. one_new (prepared_snapshot w x (reserved_leg x)) (record { image = ap (λ y. y.source.active) r.is; fresh = reserved_fresh w k x s r a f; unspent = reserved_unspent w k x r a f })
+        (come_one w x.relation.source x.source (with_snapshot x.source (prepared_snapshot w x (reserved_leg x))) _ (source_stands w k x r s.crossed) refl) refl (reserved_spent w k x s r)))
 of_effect w k x kind e s r (due_prune leg a b) i = subst (By w) (sym i) (going (By w) w k x _ _ (λ _. copies (stays w) refl)
     (λ _. copies (thinned_at w k x (without (goes w x) x.destination) s r (filter_thins _ x.destination.snapshots)) refl))
 of_effect w k x kind e s r (due_publish leg a b c) i = subst (By w) (sym i) (going (By w) w k x _ _ (λ _. copies (stays w) refl) (λ _. copies (of_publish w k x leg s r a) refl))

@@ -30,7 +30,7 @@ answers_keep_tags w e reached s i = tags.of_answer w reached.world reached.reply
 
 pub brought_agree : (w u : Up) (reply : Reply) → CopiesAgree w → Brings w reply u → CopiesAgree u
 brought_agree w u reply k (copies h e) = copies_come w u h k
-brought_agree w u reply k (one_new f n h e) = copies_fresh w u f h n.fresh k
+brought_agree w u reply k (one_new f n h e z) = copies_fresh w u f h n.fresh k
 
 answered_agree : (w u : Up) (t : Told) → SoundUp w → IsAnswer w t u → CopiesAgree u
 answered_agree w u t s (answers.plain p c) = copies_come w u (brings.of_change w u c) s.copies_agree

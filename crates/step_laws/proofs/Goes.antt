@@ -17,7 +17,7 @@ use Rattle.sm_model.specs.Steps.{Effect, with_destination}
 use Rattle.sm_model.specs.Due.{StepKind, revert, finish, settle, prepare, prune, publish, checkpoint, ship, goes, settled_relation, IsEffect, IsStep, by_transfer, by_tidy}
 use Rattle.transfer_laws.proofs.Lists.{among_append, from_map, among_filter}
 use Rattle.step_laws.proofs.Walk.{going}
-use Rattle.step_laws.proofs.Members.{among_set}
+use Rattle.step_laws.proofs.Members.{among_set, length_set}
 use Rattle.step_laws.proofs.Parties.{relation_stands}
 use Rattle.step_laws.proofs.Needs.{set_cases, push_within, mapped_at}
 use Rattle.step_laws.proofs.OfAnswer as answers
@@ -39,11 +39,6 @@ stays_from w r t m e = old_one r t m e refl refl refl
 
 pub goes_same : (w : Up) → Goes w w
 goes_same w = record { count = omega arith; next = λ v h. omega arith; next_transfer = omega arith; transfers = stays_from w }
-
-length_set : {X : Type 0} (xs : List X) (k : ℕ) (y : X) → length (slice_set xs k y) ≡ length xs
-length_set [] k y = refl
-length_set (x ∷ xs) zero y = refl
-length_set (x ∷ xs) (suc k) y = let e = length_set xs k y in omega arith
 
 -- one volume is changed, and its number does not go back
 pub goes_volume : (w : Up) (k : ℕ) (u : Volume) → (volume_at w k).next ≤ u.next → Goes w (with_volume w k u)

@@ -25,4 +25,6 @@ pub mod CopiesStay
 pub mod NeededHere
 pub mod Goes
 pub mod Spent
-pub mod Tmp
+pub mod Traced
+pub mod Along
+pub mod Contents

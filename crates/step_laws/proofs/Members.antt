@@ -63,3 +63,23 @@ find_none_go false r o c e h = h e
 pub find_none : {X : Type 0} (p : X → Bool) (xs : List X) → find p xs ≡ None → list_any p xs ≡ false
 find_none p [] e = refl
 find_none p (x ∷ xs) e = find_none_go (p x) x (find p xs) (list_any p xs) e (find_none p xs)
+
+pub length_set : {X : Type 0} (xs : List X) (k : ℕ) (y : X) → length (slice_set xs k y) ≡ length xs
+length_set [] k y = refl
+length_set (x ∷ xs) zero y = refl
+length_set (x ∷ xs) (suc k) y = let e = length_set xs k y in omega arith
+
+pub set_at : {X : Type 0} (xs : List X) (k : ℕ) (y d : X) → k < length xs → slice_index_or (slice_set xs k y) k d ≡ y
+set_at [] k y d h = absurd (omega arith)
+set_at (x ∷ xs) zero y d h = refl
+set_at (x ∷ xs) (suc k) y d h = set_at xs k y d (omega arith)
+
+within_go : {X : Type 0} (x : X) (xs : List X) (b : Bool) (o : Option (Found X)) (f : Found X) → cond b (Some (record { at = 0; item = x })) (next_place o) ≡ Some f →
+    ((g : Found X) → o ≡ Some g → g.at < length xs) → f.at < length (x ∷ xs)
+within_go x xs true o f e h = subst (λ g. g.at < length (x ∷ xs)) (same_Some _ f e) (omega arith)
+within_go x xs false None f e h = absurd (cc)
+within_go x xs false (Some g) f e h = subst (λ g. g.at < length (x ∷ xs)) (same_Some _ f e) (let l = h g refl in omega arith)
+
+pub found_within : {X : Type 0} (p : X → Bool) (xs : List X) (f : Found X) → found p xs ≡ Some f → f.at < length xs
+found_within p [] f e = absurd (cc)
+found_within p (x ∷ xs) f e = within_go x xs (p x) (found p xs) f e (λ g. found_within p xs g)

@@ -1,3 +1,4 @@
 pub mod Answering
 pub mod Needs
 pub mod Copies
+pub mod Contents

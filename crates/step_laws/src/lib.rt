@@ -7,6 +7,7 @@
 ghost use Rattle.step_laws.specs.Answering.{OpeningAgainChangesNothing, ShowingLeavesTheWorld, OkIsNoRefusal, StepsAreNoRefusals, DeedsAreNoRefusals, RefusalsLeaveTheWorld, ChosenIsDue};
 ghost use Rattle.step_laws.specs.Needs.{AnswersKeepTheNeeded, StepsKeepTheNeeded, DeedsKeepTheNeeded, RestartsKeepSnapshots};
 ghost use Rattle.step_laws.specs.Copies.{AnswersKeepTags, StepsKeepTags, DeedsKeepTags, RestartsKeepTags, AnswersKeepCopies, StepsKeepCopies, DeedsKeepCopies, RestartsKeepCopies};
+ghost use Rattle.step_laws.specs.Contents.{DeedsAreTraced, ContentsAreTheOrigins, IdentitiesAreMadeOnce};
 
 /// Opening a world that was just opened changes nothing.
 pub fn opening_again_changes_nothing()
@@ -101,4 +102,19 @@ pub fn deeds_keep_copies()
 /// They agree after a restart if they agreed before.
 pub fn restarts_keep_copies()
     ensures { RestartsKeepCopies }
+{}
+
+/// Each snapshot after a deed was there before, or the deed took it of what was active on its origin.
+pub fn deeds_are_traced()
+    ensures { DeedsAreTraced }
+{}
+
+/// After a run whose deeds all begin in sound worlds each snapshot has the contents that its origin held.
+pub fn contents_are_the_origins()
+    ensures { ContentsAreTheOrigins }
+{}
+
+/// No deed of such a run makes an identity that stood at the start or was made before.
+pub fn identities_are_made_once()
+    ensures { IdentitiesAreMadeOnce }
 {}

@@ -1,4 +1,3 @@
-use Rattle.step_laws.proofs.Tmp as tmp
 use Rattle.step_laws.proofs.Opening.{opened_twice}
 use Rattle.step_laws.proofs.opening_again_changes_nothing.Goals as goal
 

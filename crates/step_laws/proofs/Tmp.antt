@@ -1,1 +1,0 @@
-use Rattle.step_laws.proofs.Spent.{standing_spent}
