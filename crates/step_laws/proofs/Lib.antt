@@ -28,3 +28,7 @@ pub mod Spent
 pub mod Traced
 pub mod Along
 pub mod Contents
+pub mod HasStep
+pub mod Shipping
+pub mod Idling
+pub mod Ending

@@ -1,5 +1,5 @@
 -- What each answer that is no refusal is: one case for each way to change the world.
-use Rattle.std.proofs.Common.{◌≡◌, ◌⊎◌, ℕ, List, [], ◌∷◌, Bool, true, false, cond, Option, Some, None, Result, Ok, Err, refl, sym, ap, subst, ◌∙◌, inl, inr}
+use Rattle.std.proofs.Common.{◌≡◌, ◌≢◌, ◌⊎◌, ℕ, List, [], ◌∷◌, Bool, true, false, cond, Option, Some, None, Result, Ok, Err, refl, sym, ap, subst, ◌∙◌, inl, inr}
 use Rattle.std.proofs.lemmas.Option.{same_Some}
 use Rattle.sm_base.specs.declared.numbers.Ident.{Ident}
 use Rattle.sm_base.specs.declared.numbers.DiskNo.{DiskNo}
@@ -17,6 +17,7 @@ use Rattle.sm_model.specs.declared.reply.Line.{Line}
 use Rattle.sm_defs.specs.Volume.{Volume, Snapshot, no_volume, new_volume, has}
 use Rattle.sm_defs.specs.Relationship.{Policy, Relationship, Transfer}
 use Rattle.sm_defs.specs.Legs.{Legs}
+use Rattle.sm_defs.specs.Edges.{is_empty}
 use Rattle.sm_defs.specs.Needed.{holder}
 use Rattle.sm_defs.specs.World.{Up, volume_at, relation_at, no_relation, with_volume, with_relation}
 use Rattle.sm_model.specs.World.{Deed}
@@ -50,15 +51,18 @@ pub record IsPlain (reply : Reply) : Type 0 where
 abbrev pub PlainTold : Told → Type 0
 PlainTold t = (reply : Reply) → Tells t reply → IsPlain reply
 
--- the relationship is another's with at most its transfer changed, which keeps its number and its mark
+-- The relationship is another's with at most its transfer changed, which keeps its number and its mark. Without a
+-- base it had none before, and the same legs.
 pub record Follows (r q : Relationship) : Type 0 where
   pub source : q.source ≡ r.source
   pub transfer : (u : Transfer) → q.transfer ≡ Some u → (t : Transfer) × (r.transfer ≡ Some t) × (u.number ≡ t.number) × (u.reserved ≡ t.reserved)
+  pub ends : (u : Transfer) → q.transfer ≡ Some u → q.base ≡ None → (t : Transfer) × (r.transfer ≡ Some t) × (r.base ≡ None) × (u.legs ≡ t.legs)
 
--- the relationship is another's with the next transfer
+-- the relationship is another's with the next transfer, which has a leg where there is no base
 pub record Starts (w : Up) (r q : Relationship) : Type 0 where
   pub source : q.source ≡ r.source
   pub transfer : (u : Transfer) → q.transfer ≡ Some u → u.number ≡ w.next_transfer
+  pub ends : (u : Transfer) → q.transfer ≡ Some u → q.base ≡ None → u.legs ≢ []
 
 -- what an event changes, but for a new snapshot
 pub data IsChange (w : Up) : Up → Type 0 where
@@ -155,17 +159,17 @@ unfolding made_by
 relate w s d p = with_found _ _ _ _ (λ s _. with_found _ _ _ _ (λ d _. with_found _ _ _ _ (λ p _. with_held _ _ _ (λ _. past _ _ _ _ (λ _. past _ _ _ _ (λ _. past _ _ _ _ (λ _.
     by_told w _ _ (record { makes_none = refl; accepted = λ r e. cc }) (relates s.at d.at p.at))))))))
 
-same_transfer : (r q : Relationship) → q.source ≡ r.source → q.transfer ≡ r.transfer → Follows r q
-same_transfer r q e f = record { source = e; transfer = λ u g. (u, sym f ∙ g, refl, refl) }
+same_transfer : (r q : Relationship) → q.source ≡ r.source → q.transfer ≡ r.transfer → q.base ≡ r.base → Follows r q
+same_transfer r q e f b = record { source = e; transfer = λ u g. (u, sym f ∙ g, refl, refl); ends = λ u g h. (u, sym f ∙ g, sym b ∙ h, refl) }
 
 set_quiesced : (w : Up) (d : List ℕ) (flag : Bool) → OfOk (Is w) (relations.set_quiesced w d flag)
-set_quiesced w d flag = with_target _ _ _ _ (λ t _ is. by_done w _ (changes t.relation (relation_at_place w _ t.relation is) _ (same_transfer t.relation.item _ refl refl)))
+set_quiesced w d flag = with_target _ _ _ _ (λ t _ is. by_done w _ (changes t.relation (relation_at_place w _ t.relation is) _ (same_transfer t.relation.item _ refl refl refl)))
 
 break_off : (w : Up) (d : List ℕ) → OfOk (Is w) (relations.break_off w d)
 break_off w d = with_target _ _ _ _ (λ t is _. past _ _ _ _ (λ _. past _ _ _ _ (λ _. past _ _ _ _ (λ _. by_done w _ (breaks t.destination (volume_at_place w _ t.destination is))))))
 
 delete : (w : Up) (d : List ℕ) → OfOk (Is w) (relations.delete w d)
-delete w d = with_target _ _ _ _ (λ t _ is. past _ _ _ _ (λ _. by_done w _ (halves t.relation (relation_at_place w _ t.relation is) _ (same_transfer t.relation.item _ refl refl))))
+delete w d = with_target _ _ _ _ (λ t _ is. past _ _ _ _ (λ _. by_done w _ (halves t.relation (relation_at_place w _ t.relation is) _ (same_transfer t.relation.item _ refl refl refl))))
 
 either : {X : Type 0} (o q : Option X) (x : X) → or_else o q ≡ Some x → (o ≡ Some x) ⊎ (q ≡ Some x)
 either (Some y) q x e = inl e
@@ -180,20 +184,33 @@ released_at w o q r e = go (either (found o w.relations) (found q w.relations) r
 
 release : (w : Up) (s d : List ℕ) → OfOk (Is w) (relations.release w s d)
 release w s d = with_found _ _ _ _ (λ s _. with_found _ _ _ _ (λ d _. with_found _ _ _ _ (λ r is. past _ _ _ _ (λ _. past _ _ _ _ (λ _.
-    by_done w _ (halves r (released_at w _ _ r is) _ (same_transfer r.item _ refl refl)))))))
+    by_done w _ (halves r (released_at w _ _ r is) _ (same_transfer r.item _ refl refl refl)))))))
 
 -- ---- transfers
 
 resumed_follows : (r : Relationship) (t : Transfer) → r.transfer ≡ Some t → Follows r (transfers.with_transfer r (transfers.resumed t))
-resumed_follows r t e = record { source = refl; transfer = λ u f. (t, e, ap (λ y. y.number) (sym (same_Some _ u f)), ap (λ y. y.reserved) (sym (same_Some _ u f))) }
+resumed_follows r t e = record {
+  source = refl;
+  transfer = λ u f. (t, e, ap (λ y. y.number) (sym (same_Some _ u f)), ap (λ y. y.reserved) (sym (same_Some _ u f)));
+  ends = λ u f b. (t, e, b, ap (λ y. y.legs) (sym (same_Some _ u f)));
+}
 
-started : (w : Up) (r q : Relationship) (kind : TransferKind) (ls : Legs) → q.source ≡ r.source → q.transfer ≡ Some (transfers.new_transfer w.next_transfer kind ls) → Starts w r q
-started w r q kind ls e f = record { source = e; transfer = λ u g. ap (λ y. y.number) (sym (same_Some _ u (sym f ∙ g))) }
+-- a list with members is not empty
+filled : {X : Type 0} (xs : List X) → is_empty xs ≡ false → xs ≢ []
+filled [] e f = absurd (cc)
+filled (x ∷ xs) e f = cc
+
+started : (w : Up) (r q : Relationship) (kind : TransferKind) (ls : Legs) → q.source ≡ r.source → q.transfer ≡ Some (transfers.new_transfer w.next_transfer kind ls) → (q.base ≡ None → ls.idents ≢ []) → Starts w r q
+started w r q kind ls e f n = record {
+  source = e;
+  transfer = λ u g. ap (λ y. y.number) (sym (same_Some _ u (sym f ∙ g)));
+  ends = λ u g b. subst (λ is. is ≢ []) (ap (λ y. y.legs) (same_Some _ u (sym f ∙ g))) (n b);
+}
 
 start_it : (w : Up) (r : Found Relationship) (kind : TransferKind) → RelationAt w r → OfOk (Is w) (transfers.start_it w r.at r.item kind)
 unfolding made_by
-start_it w r kind a = with_held _ _ _ (λ _. whether_so _ _ _ _ (λ _. by_told w w _ (record { makes_none = refl; accepted = λ r e. cc }) (same w)) (λ _. past _ _ _ _ (λ _.
-    by_told w _ _ (record { makes_none = refl; accepted = λ r e. cc }) (starts r a _ (started w r.item _ kind _ refl refl)))))
+start_it w r kind a = with_held _ _ _ (λ _. whether_so _ _ _ _ (λ _. by_told w w _ (record { makes_none = refl; accepted = λ r e. cc }) (same w)) (λ some. past _ _ _ _ (λ _.
+    by_told w _ _ (record { makes_none = refl; accepted = λ r e. cc }) (starts r a _ (started w r.item _ kind _ refl refl (λ _. filled _ some))))))
 
 start : (w : Up) (r : Found Relationship) (kind : TransferKind) (t : Option Transfer) → RelationAt w r → r.item.transfer ≡ t → OfOk (Is w) (transfers.resume_or_start w r.at r.item kind t)
 unfolding transfers.resume_or_start made_by
@@ -206,36 +223,48 @@ initialize w d = with_target _ _ _ _ (λ t _ is. past _ _ _ _ (λ _. past _ _ _ 
 update : (w : Up) (d : List ℕ) → OfOk (Is w) (transfers.update w d)
 update w d = with_target _ _ _ _ (λ t _ is. past _ _ _ _ (λ _. past _ _ _ _ (λ _. past _ _ _ _ (λ _. past _ _ _ _ (λ _. past _ _ _ _ (λ _. start w t.relation Update _ (relation_at_place w _ t.relation is) refl))))))
 
--- a settled leg leaves the number and the mark
+-- a settled leg leaves the number and the mark, and is the base
 settled_follows : (there : List Snapshot) (r : Relationship) (t : Transfer) (is : List Ident) → r.transfer ≡ Some t → Follows r (transfers.settled_if_there there r t is)
-settled_follows there r t [] e = same_transfer r r refl refl
+settled_follows there r t [] e = same_transfer r r refl refl refl
 settled_follows there r t (i ∷ is) e = go (has there i)
   where
     go : (b : Bool) → Follows r (cond b (transfers.settled r t i is) r)
-    go true = record { source = refl; transfer = λ u f. (t, e, ap (λ y. y.number) (sym (same_Some _ u f)), ap (λ y. y.reserved) (sym (same_Some _ u f))) }
-    go false = same_transfer r r refl refl
+    go true = record {
+      source = refl;
+      transfer = λ u f. (t, e, ap (λ y. y.number) (sym (same_Some _ u f)), ap (λ y. y.reserved) (sym (same_Some _ u f)));
+      ends = λ u f b. absurd (cc);
+    }
+    go false = same_transfer r r refl refl refl
+
+settled_transfer : (there : List Snapshot) (r : Relationship) (t : Transfer) (is : List Ident) → r.transfer ≡ Some t → (v : Transfer) × ((transfers.settled_if_there there r t is).transfer ≡ Some v)
+settled_transfer there r t [] e = (t, e)
+settled_transfer there r t (i ∷ is) e = go (has there i)
+  where
+    go : (b : Bool) → (v : Transfer) × ((cond b (transfers.settled r t i is) r).transfer ≡ Some v)
+    go true = (_, refl)
+    go false = (t, e)
 
 ended_follows : (r q : Relationship) → Follows r q → Follows r (transfers.without_transfer q)
-ended_follows r q f = record { source = f.source; transfer = λ u e. absurd (cc) }
+ended_follows r q f = record { source = f.source; transfer = λ u e. absurd (cc); ends = λ u e b. absurd (cc) }
 
-halted_follows : (r q : Relationship) (t : Transfer) → r.transfer ≡ Some t → Follows r q → Follows r (transfers.with_transfer q (transfers.halted (transfers.transfer_or t q.transfer)))
-halted_follows r q t e f = go q.transfer refl
-  where
-    go : (o : Option Transfer) → q.transfer ≡ o → Follows r (transfers.with_transfer q (transfers.halted (transfers.transfer_or t o)))
-    go None g = record { source = f.source; transfer = λ u h. (t, e, ap (λ y. y.number) (sym (same_Some _ u h)), ap (λ y. y.reserved) (sym (same_Some _ u h))) }
-    go (Some v) g = let (a, b, c, d) = f.transfer v g in record { source = f.source; transfer = λ u h. (a, b, ap (λ y. y.number) (sym (same_Some _ u h)) ∙ c, ap (λ y. y.reserved) (sym (same_Some _ u h)) ∙ d) }
+halted_follows : (r q : Relationship) (t : Transfer) → Follows r q → (v : Transfer) × (q.transfer ≡ Some v) → Follows r (transfers.with_transfer q (transfers.halted (transfers.transfer_or t q.transfer)))
+halted_follows r q t f (v, g) = subst (λ o. Follows r (transfers.with_transfer q (transfers.halted (transfers.transfer_or t o)))) (sym g) (record {
+  source = f.source;
+  transfer = λ u h. let (a, b, c, d) = f.transfer v g in (a, b, ap (λ y. y.number) (sym (same_Some _ u h)) ∙ c, ap (λ y. y.reserved) (sym (same_Some _ u h)) ∙ d);
+  ends = λ u h n. let (a, b, c, d) = f.ends v g n in (a, b, c, ap (λ y. y.legs) (sym (same_Some _ u h)) ∙ d);
+})
 
 abort : (w : Up) (d : List ℕ) (hard : Bool) → OfOk (Is w) (transfers.abort w d hard)
 unfolding made_by
 abort w d hard = with_target _ _ _ _ (λ d _ is. with_found _ _ _ _ (λ t e. past _ _ _ _ (λ _.
     let a = relation_at_place w _ d.relation is in let f = settled_follows d.destination.item.snapshots d.relation.item t t.legs e in
     whether_so _ _ _ _ (λ _. by_told w _ _ (record { makes_none = refl; accepted = λ r e. cc }) (changes d.relation a _ (ended_follows d.relation.item _ f)))
-    (λ _. by_told w _ _ (record { makes_none = refl; accepted = λ r e. cc }) (changes d.relation a _ (halted_follows d.relation.item _ t e f))))))
+    (λ _. by_told w _ _ (record { makes_none = refl; accepted = λ r e. cc }) (changes d.relation a _ (halted_follows d.relation.item _ t f (settled_transfer d.destination.item.snapshots d.relation.item t t.legs e)))))))
 
 resync : (w : Up) (d : List ℕ) → OfOk (Is w) (transfers.resync w d)
 unfolding made_by
 resync w d = with_target _ _ _ _ (λ t _ is. past _ _ _ _ (λ _. past _ _ _ _ (λ _. past _ _ _ _ (λ _. past _ _ _ _ (λ _. with_found _ _ _ _ (λ c _. with_held _ _ _ (λ _. with_held _ _ _ (λ _. past _ _ _ _ (λ _.
-    by_told w _ _ (record { makes_none = refl; accepted = λ r e. cc }) (starts t.relation (relation_at_place w _ t.relation is) _ (started w t.relation.item _ Resync _ refl refl)))))))))))
+    by_told w _ _ (record { makes_none = refl; accepted = λ r e. cc }) (starts t.relation (relation_at_place w _ t.relation is) _ (started w t.relation.item _ Resync _ refl refl (λ b. absurd (cc)))))))))))))
 
 -- ---- all events
 

@@ -2,3 +2,4 @@ pub mod Answering
 pub mod Needs
 pub mod Copies
 pub mod Contents
+pub mod Idling

@@ -8,6 +8,7 @@ ghost use Rattle.step_laws.specs.Answering.{OpeningAgainChangesNothing, ShowingL
 ghost use Rattle.step_laws.specs.Needs.{AnswersKeepTheNeeded, StepsKeepTheNeeded, DeedsKeepTheNeeded, RestartsKeepSnapshots};
 ghost use Rattle.step_laws.specs.Copies.{AnswersKeepTags, StepsKeepTags, DeedsKeepTags, RestartsKeepTags, AnswersKeepCopies, StepsKeepCopies, DeedsKeepCopies, RestartsKeepCopies};
 ghost use Rattle.step_laws.specs.Contents.{DeedsAreTraced, ContentsAreTheOrigins, IdentitiesAreMadeOnce};
+ghost use Rattle.step_laws.specs.Idling.{DeedsKeepEnds, RestartsKeepEnds, RunningTransfersHaveSteps, IdleIsExact};
 
 /// Opening a world that was just opened changes nothing.
 pub fn opening_again_changes_nothing()
@@ -117,4 +118,24 @@ pub fn contents_are_the_origins()
 /// No deed of such a run makes an identity that stood at the start or was made before.
 pub fn identities_are_made_once()
     ensures { IdentitiesAreMadeOnce }
+{}
+
+/// Where each transfer has a base or a leg, so it is after each deed.
+pub fn deeds_keep_ends()
+    ensures { DeedsKeepEnds }
+{}
+
+/// So it is after each restart.
+pub fn restarts_keep_ends()
+    ensures { RestartsKeepEnds }
+{}
+
+/// In a sound world each running transfer has a step due.
+pub fn running_transfers_have_steps()
+    ensures { RunningTransfersHaveSteps }
+{}
+
+/// In a sound world the program finds no step exactly where none is due.
+pub fn idle_is_exact()
+    ensures { IdleIsExact }
 {}
