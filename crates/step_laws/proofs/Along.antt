@@ -1,7 +1,6 @@
 -- Along deeds: what stands has its origin, and what has an origin was given.
 use Rattle.std.proofs.Common.{◌≡◌, ◌⊎◌, Bool, true, false, cond, List, [], ◌∷◌, ◌++◌, Option, Some, None, refl, sym, ap, subst, ◌∙◌, inl, inr, true≢false}
 use Rattle.std.specs.List.{find}
-use Rattle.std.proofs.lemmas.Option.{same_Some}
 use Rattle.sm_base.specs.declared.numbers.Ident.{Ident}
 use Rattle.sm_defs.specs.Words.{Among, same_ident, or_else}
 use Rattle.sm_defs.specs.Image.{Image, SameContents}
@@ -10,9 +9,9 @@ use Rattle.sm_defs.specs.World.{Up, volume_at}
 use Rattle.sm_model.specs.World.{Deed}
 use Rattle.sm_model.specs.Standing.{Stands}
 use Rattle.sm_model.specs.Opened.{opened}
-use Rattle.sm_model.specs.Origin.{makes, made_by, origin, origin_from, found_active, lowest_copy}
+use Rattle.sm_model.specs.Origin.{makes, origin, origin_from, found_active, lowest_copy}
 use Rattle.sm_model.specs.Sound.{SoundUp}
-use Rattle.transfer_laws.proofs.Lists.{same_is, is_same, has_from_copy}
+use Rattle.transfer_laws.proofs.Lists.{same_is}
 use Rattle.step_laws.specs.Contents.{WasThere, WasTaken, IsTraced, HasOrigin, AllHaveOrigins}
 use Rattle.step_laws.proofs.Members.{find_none}
 use Rattle.step_laws.proofs.Parties.{snapshot_is, lacked}
@@ -73,6 +72,7 @@ brought_progress d b g k = record { traced = brought_traced d b; stays = λ i s.
     anew : Brings d.old d.reply d.new → (i : Ident) → Spent d.old i → makes i d ≡ false
     anew (copies h e) i s = makes_none d i e
     anew (one_new f n h e z) i s = makes_one d i f.ident e ∙ Rattle.std.proofs.lemmas.Bool.false_from_ne_true (same_ident f.ident i) (λ q. n.unspent (subst (Spent d.old) (sym (same_is f.ident i q)) s))
+
     given : Brings d.old d.reply d.new → (i : Ident) → makes i d ≡ true → Spent d.new i
     given (copies h e) i m = absurd (true≢false (sym m ∙ makes_none d i e))
     given (one_new f n h e z) i m = subst (Spent d.new) (same_is f.ident i (sym (makes_one d i f.ident e) ∙ m)) z
@@ -92,13 +92,16 @@ along_deed start ds d a p = record { origins = λ v s m. old_or_new s (p.traced 
     old_or_new s (inl (t, f)) =
         let (v, u, k, c) = t in let (image, e, q) = a.origins v u k in
         (image, origin_stays start ds (d ∷ []) s.ident image (ap (origin start ds) c.ident ∙ e), c.contents ∙ q)
-    old_or_new s (inr t) =
-        ((volume_at d.old s.ident.origin).active,
-        origin_at start ds d s.ident (made_unknown start ds d s.ident a p t.made) ∙ ap (λ b. found_active s.ident (cond b (Some d) None)) t.made,
-        t.contents)
+    old_or_new s (inr t) = (
+      (volume_at d.old s.ident.origin).active,
+      origin_at start ds d s.ident (made_unknown start ds d s.ident a p t.made) ∙ ap (λ b. found_active s.ident (cond b (Some d) None)) t.made,
+      t.contents,
+    )
+
     by_made : (i : Ident) (image : Image) (b : Bool) → makes i d ≡ b → found_active i (cond b (Some d) None) ≡ Some image → Spent d.new i
     by_made i image true m e = p.given i m
     by_made i image false m e = absurd (cc)
+
     by : (i : Ident) (image : Image) (o : Option Image) → origin start ds i ≡ o → origin start (ds ++ d ∷ []) i ≡ Some image → Spent d.new i
     by i image (Some other) f e = p.stays i (a.spent i other f)
     by i image None f e = by_made i image (makes i d) refl (sym (origin_at start ds d i f) ∙ e)

@@ -1,7 +1,6 @@
 -- What takes effect brings no snapshot but copies of those that stood, or one that is new.
-use Rattle.std.proofs.Common.{◌≡◌, ◌⊎◌, ◌<◌, ℕ, Bool, true, false, cond, List, [], ◌∷◌, ◌++◌, length, Option, Some, None, refl, sym, ap, subst, ◌∙◌, inl, inr, ltb-true, arith, true≢false}
+use Rattle.std.proofs.Common.{◌≡◌, ◌⊎◌, ◌<◌, ℕ, Bool, true, false, List, [], ◌∷◌, ◌++◌, length, Option, Some, None, refl, sym, ap, subst, ◌∙◌, inl, inr, ltb-true, arith, true≢false}
 use Rattle.std.proofs.lemmas.Bool.{and_parts}
-use Rattle.sm_base.specs.declared.numbers.Ident.{Ident}
 use Rattle.sm_model.specs.declared.event.Event.{Event}
 use Rattle.sm_model.specs.declared.reply.Reply.{Reply}
 use Rattle.sm_defs.specs.Words.{Among, Found, found}
@@ -18,7 +17,7 @@ use Rattle.sm_model.specs.declared.reply.Reply.TheVariants as replies
 use Rattle.sm_model.specs.OfVolumes.{client_ident, snapped, with_snapshot, client_snapshot}
 use Rattle.sm_model.specs.Running.{Running, IsRunning}
 use Rattle.sm_model.specs.Steps.{Effect, reverted, arrived, published, prepared_snapshot}
-use Rattle.sm_model.specs.Due.{StepKind, revert, finish, settle, prepare, prune, publish, checkpoint, ship, kind_due, reserved_leg, IsEffect, IsStep, by_transfer, by_tidy, is_tidied, tidy_due, goes}
+use Rattle.sm_model.specs.Due.{StepKind, reserved_leg, IsEffect, IsStep, by_transfer, by_tidy, is_tidied, tidy_due, goes}
 use Rattle.sm_model.specs.LegalRun.{IsStepDeed, IsDeed}
 use Rattle.transfer_laws.proofs.Lists.{among_append, among_right, has_from_copy}
 use Rattle.step_laws.proofs.Walk.{going}
@@ -31,8 +30,8 @@ use Rattle.step_laws.proofs.Spent.{Spent, by_client, by_transfer as by_transfer_
 use Rattle.step_laws.proofs.Parties.{relation_stands, source_stands, destination_stands, snapshot_is, lacked}
 use Rattle.step_laws.proofs.DueCases.{Ahead, IsDue, due_revert, due_finish, due_settle, due_prepare, due_prune, due_publish, due_checkpoint, due_ship, kind_is_due}
 use Rattle.step_laws.proofs.Landing.{reverted_thins, published_thins, landing_same}
-use Rattle.step_laws.proofs.OfAnswer as answers
-use Rattle.step_laws.proofs.OfAnswer.{IsChange, IsAnswer, VolumeAt}
+use Rattle.step_laws.proofs.Changes as answers
+use Rattle.step_laws.proofs.Changes.{IsChange, IsAnswer, VolumeAt}
 use Rattle.step_laws.proofs.Deeds.{IsAnswered, deed_cases}
 
 -- the snapshot is new, of what was active on its origin
@@ -132,10 +131,15 @@ of_publish w k x leg s r a = stands_set (ComesFrom w) w x.relation.destination (
   where
     there : Among x.source.snapshots leg
     there = (snapshot_is x.source.snapshots a.i leg a.source).0
+
     each : (t : Snapshot) → Among x.destination.snapshots t ⊎ Among (arrived x leg ∷ []) t → ComesFrom w t
     each t (inl m) = stays w x.destination t (destination_stands w k x r s.crossed, m)
-    each t (inr (inl e)) = record { volume = x.source; snapshot = leg; stands = (source_stands w k x r s.crossed, there);
-      copy = subst (λ y. IsCopy y leg) (sym e) (record { ident = refl; name = refl; label = refl; time = refl; maker = refl; contents = landing_same w k x leg s r there }) }
+    each t (inr (inl e)) = record {
+      volume = x.source;
+      snapshot = leg;
+      stands = (source_stands w k x r s.crossed, there);
+      copy = subst (λ y. IsCopy y leg) (sym e) (record { ident = refl; name = refl; label = refl; time = refl; maker = refl; contents = landing_same w k x leg s r there });
+    }
     each t (inr (inr m)) = absurd m
 
 abbrev By : Up → Effect → Type 0
@@ -152,7 +156,7 @@ of_effect w k x kind e s r (due_finish base a f) i = subst (By w) (sym i) (copie
 of_effect w k x kind e s r (due_settle j later a f) i = subst (By w) (sym i) (copies (stays w) refl)
 of_effect w k x kind e s r (due_prepare a f) i = subst (By w) (sym i) (going (By w) w k x _ _ (λ _. copies (stays w) refl)
     (λ _. one_new (prepared_snapshot w x (reserved_leg x)) (record { image = ap (λ y. y.source.active) r.is; fresh = reserved_fresh w k x s r a f; unspent = reserved_unspent w k x r a f })
-        (come_one w x.relation.source x.source (with_snapshot x.source (prepared_snapshot w x (reserved_leg x))) _ (source_stands w k x r s.crossed) refl) refl (reserved_spent w k x s r)))
+    (come_one w x.relation.source x.source (with_snapshot x.source (prepared_snapshot w x (reserved_leg x))) _ (source_stands w k x r s.crossed) refl) refl (reserved_spent w k x s r)))
 of_effect w k x kind e s r (due_prune leg a b) i = subst (By w) (sym i) (going (By w) w k x _ _ (λ _. copies (stays w) refl)
     (λ _. copies (thinned_at w k x (without (goes w x) x.destination) s r (filter_thins _ x.destination.snapshots)) refl))
 of_effect w k x kind e s r (due_publish leg a b c) i = subst (By w) (sym i) (going (By w) w k x _ _ (λ _. copies (stays w) refl) (λ _. copies (of_publish w k x leg s r a) refl))

@@ -1,5 +1,5 @@
 -- What this program chooses is due.
-use Rattle.std.proofs.Common.{◌≡◌, ◌⊎◌, ◌<◌, ◌+◌, ℕ, zero, suc, Bool, true, false, cond, List, [], ◌∷◌, length, Option, Some, None, refl, sym, ap, subst, ◌∙◌, inl, inr, arith}
+use Rattle.std.proofs.Common.{◌≡◌, ◌<◌, ◌+◌, ℕ, suc, Bool, true, false, cond, List, [], ◌∷◌, length, Option, Some, None, refl, sym, ap, subst, inl, inr, arith}
 use Rattle.std.specs.Prelude.{slice_get, slice_index_or, ◌%◌}
 use Rattle.std.specs.List.{find, filter}
 use Rattle.std.proofs.lemmas.Option.{same_Some}
@@ -9,10 +9,10 @@ use Rattle.sm_defs.specs.Words.{Among, Found}
 use Rattle.sm_defs.specs.Volume.{Snapshot, numbers}
 use Rattle.sm_defs.specs.Relationship.{Relationship, Transfer}
 use Rattle.sm_defs.specs.Edges.{runs, is_running}
-use Rattle.sm_defs.specs.World.{Up, no_relation, relation_at}
+use Rattle.sm_defs.specs.World.{Up, no_relation}
 use Rattle.sm_model.specs.Running.{Running, running_in, IsRunning}
 use Rattle.sm_model.specs.Steps.{Effect, cost, may_ship}
-use Rattle.sm_model.specs.Due.{StepKind, revert, finish, settle, prepare, prune, publish, checkpoint, ship, kind_due, IsEffect, IsStep, by_transfer, by_tidy, tidy_due, tidy_effect}
+use Rattle.sm_model.specs.Due.{StepKind, revert, finish, settle, prepare, prune, publish, checkpoint, ship, kind_due, IsEffect, IsStep, by_transfer, by_tidy, tidy_due}
 use Rattle.sm_model.specs.Choice.{with_running, running_from, running, taken, shippable, effect_for, chosen_for, chosen_of, tidied, chosen}
 use Rattle.transfer_laws.proofs.Lists.{among_filter}
 use Rattle.step_laws.proofs.Members.{get_among, find_is}
@@ -68,12 +68,12 @@ stopped_none (Some u) t e h = subst (λ y. y.stopped ≡ None) (same_Some u t e)
 pub is_running_there : (w : Up) (f : Found Relationship) (t : Transfer) → IsIn 0 w.relations f → f.item.transfer ≡ Some t → IsRunning w f.at (running_in w f.item t)
 is_running_there w f t h e =
     let s : f.at ≡ h.by = (let q = h.at in omega arith) in record {
-  place = rw s h.place;
-  stands = rw s h.is;
-  transfer = e;
-  runs = stopped_none f.item.transfer t e h.runs;
-  is = refl;
-}
+      place = rw s h.place;
+      stands = rw s h.is;
+      transfer = e;
+      runs = stopped_none f.item.transfer t e h.runs;
+      is = refl;
+    }
 
 by_transfer_of : (w : Up) (a : ℕ) (f : Found Relationship) (e : Effect) → IsIn 0 w.relations f → (o : Option Transfer) → f.item.transfer ≡ o → chosen_for w a (record f.item { transfer = o }) f.at ≡ Some e → IsStep w e
 by_transfer_of w a f e h None i c = absurd (cc)

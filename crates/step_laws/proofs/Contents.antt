@@ -1,5 +1,5 @@
 -- Along a run each snapshot has the contents of its origin, and each identity is made once.
-use Rattle.std.proofs.Common.{◌≡◌, ◌⊎◌, ℕ, Bool, true, false, List, [], ◌∷◌, ◌++◌, Option, Some, None, refl, sym, ap, subst, ◌∙◌, inl, inr, append_assoc, true≢false}
+use Rattle.std.proofs.Common.{◌≡◌, ◌⊎◌, true, List, [], ◌∷◌, ◌++◌, None, refl, sym, ap, subst, inl, inr, append_assoc}
 use Rattle.std.specs.List.{AllByRecursion}
 use Rattle.sm_base.specs.declared.numbers.Ident.{Ident}
 use Rattle.sm_base.specs.declared.numbers.Side.{Side}
@@ -12,15 +12,14 @@ use Rattle.sm_model.specs.Origin.{makes, made_by, origin}
 use Rattle.sm_model.specs.LegalRun as runs
 use Rattle.sm_model.specs.LegalRun.{IsDeed, IsStepDeed, Fits, Run, restart_deed}
 use Rattle.sm_model.specs.Sound.{SoundUp}
-use Rattle.step_laws.specs.Contents.{BeginSound, OriginsHold, IsTraced}
+use Rattle.step_laws.specs.Contents.{BeginSound, OriginsHold}
 use Rattle.step_laws.proofs.Deeds.{IsAnswered, deed_cases}
 use Rattle.step_laws.proofs.Goes as goes
 use Rattle.step_laws.proofs.Goes.{Goes}
 use Rattle.step_laws.proofs.NeedsStay.{deeds_keep}
-use Rattle.step_laws.proofs.Spent.{Spent, reserved_stays}
+use Rattle.step_laws.proofs.Spent.{reserved_stays}
 use Rattle.step_laws.proofs.Copies.{stays}
 use Rattle.step_laws.proofs.Brings.{Brings, copies, deed_brings}
-use Rattle.step_laws.proofs.Traced.{makes_none}
 use Rattle.step_laws.proofs.Along.{Along, Progress, brought_progress, along_deed, along_opened, along_start, made_unknown}
 
 deed_goes : (e : Event) (d : Deed) → IsDeed e d → Goes d.old d.new

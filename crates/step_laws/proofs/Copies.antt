@@ -1,6 +1,5 @@
 -- Copies still agree where each snapshot is a copy of one that stood.
 use Rattle.std.proofs.Common.{◌≡◌, ◌⊎◌, refl, sym, ◌∙◌, subst, inl, inr, ap}
-use Rattle.sm_base.specs.declared.numbers.Ident.{Ident}
 use Rattle.sm_defs.specs.Volume.{Volume, Snapshot}
 use Rattle.sm_defs.specs.World.{Up}
 use Rattle.sm_model.specs.Standing.{Stands}

@@ -1,14 +1,12 @@
 -- Tags fit and copies agree after each answer, each step and each restart.
-use Rattle.std.proofs.Common.{◌≡◌, Some, Ok, refl, sym, subst}
+use Rattle.std.proofs.Common.{◌≡◌, Some, Ok, subst}
 use Rattle.sm_model.specs.declared.event.Event.{Event}
 use Rattle.sm_model.specs.declared.reply.Reply.{Reply}
 use Rattle.sm_defs.specs.Words.{Among}
-use Rattle.sm_defs.specs.Volume.{Volume, Snapshot}
 use Rattle.sm_defs.specs.World.{Up}
 use Rattle.sm_model.specs.World.{Deed}
 use Rattle.sm_model.specs.Answers.{Reached, Told}
 use Rattle.sm_model.specs.Answer.{answer}
-use Rattle.sm_model.specs.Standing.{Stands}
 use Rattle.sm_model.specs.Steps.{Effect}
 use Rattle.sm_model.specs.Due.{IsStep}
 use Rattle.sm_model.specs.LegalRun.{IsDeed}
@@ -17,10 +15,11 @@ use Rattle.sm_model.specs.TagsFit.{TagsFit}
 use Rattle.sm_model.specs.CopiesAgree.{CopiesAgree}
 use Rattle.sm_model.specs.Sound.{SoundUp}
 use Rattle.transfer_laws.proofs.Lists.{from_map}
-use Rattle.step_laws.proofs.OfAnswer as answers
-use Rattle.step_laws.proofs.OfAnswer.{Is, IsAnswer, of_answer}
+use Rattle.step_laws.proofs.Changes as answers
+use Rattle.step_laws.proofs.Changes.{Is, IsAnswer}
+use Rattle.step_laws.proofs.OfAnswer.{of_answer}
 use Rattle.step_laws.proofs.Deeds.{from_answer}
-use Rattle.step_laws.proofs.Copies.{ComesFrom, AllCome, stays, copies_come, copies_fresh}
+use Rattle.step_laws.proofs.Copies.{AllCome, stays, copies_come, copies_fresh}
 use Rattle.step_laws.proofs.Brings as brings
 use Rattle.step_laws.proofs.Brings.{Brings, copies, one_new, step_brings, deed_brings}
 use Rattle.step_laws.proofs.TagsStay as tags

@@ -1,5 +1,5 @@
 -- What takes effect is an answer or a step, and is told as no refusal.
-use Rattle.std.proofs.Common.{◌≡◌, ◌⊎◌, ℕ, Option, Some, None, Ok, Err, refl, sym, ap, subst, ◌∙◌, inl, inr}
+use Rattle.std.proofs.Common.{◌≡◌, ◌⊎◌, ℕ, Option, Some, None, Ok, Err, sym, subst, inl, inr}
 use Rattle.sm_base.specs.declared.refusal.Refusal.{Refusal}
 use Rattle.sm_model.specs.declared.event.Event.{Event}
 use Rattle.sm_model.specs.declared.event.Event.TheVariants as events
@@ -7,14 +7,15 @@ use Rattle.sm_model.specs.declared.reply.Reply.{Reply}
 use Rattle.sm_model.specs.declared.reply.Reply.TheVariants as replies
 use Rattle.sm_defs.specs.World.{Up}
 use Rattle.sm_model.specs.World.{Deed}
-use Rattle.sm_model.specs.Answers.{Answer, Reached, Told, told, Tells}
+use Rattle.sm_model.specs.Answers.{Answer, Reached, Told, Tells}
 use Rattle.sm_model.specs.Answer.{answer}
 use Rattle.sm_model.specs.Running.{Running}
 use Rattle.sm_model.specs.Steps.{Effect}
 use Rattle.sm_model.specs.Due.{StepKind, revert, finish, settle, prepare, prune, publish, checkpoint, ship, IsEffect, IsStep, by_transfer, by_tidy}
 use Rattle.sm_model.specs.LegalRun.{IsDone, IsStepDeed, IsDeed}
 use Rattle.step_laws.proofs.Walk.{OfOk, going, from_ok}
-use Rattle.step_laws.proofs.OfAnswer.{OfAnswer, Is, IsAnswer, plain, snaps, of_answer}
+use Rattle.step_laws.proofs.Changes.{Is, IsAnswer, plain, snaps}
+use Rattle.step_laws.proofs.OfAnswer.{OfAnswer, of_answer}
 
 -- an answer that is no refusal
 pub record IsAnswered (d : Deed) : Type 0 where

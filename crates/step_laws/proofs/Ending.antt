@@ -20,8 +20,8 @@ use Rattle.step_laws.specs.Idling.{EndsAtBase}
 use Rattle.step_laws.proofs.Walk.{going}
 use Rattle.step_laws.proofs.Members.{among_set}
 use Rattle.step_laws.proofs.Parties.{relation_stands}
-use Rattle.step_laws.proofs.OfAnswer as answers
-use Rattle.step_laws.proofs.OfAnswer.{IsChange, IsAnswer, Follows}
+use Rattle.step_laws.proofs.Changes as answers
+use Rattle.step_laws.proofs.Changes.{IsChange, IsAnswer, Follows}
 use Rattle.step_laws.proofs.Deeds.{IsAnswered, deed_cases}
 
 abbrev EndsSo : Relationship → Type 0

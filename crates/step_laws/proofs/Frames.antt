@@ -1,8 +1,8 @@
 -- What a change of one volume leaves.
-use Rattle.std.proofs.Common.{◌≡◌, ◌⊎◌, ℕ, zero, suc, Bool, true, false, cond, List, [], ◌∷◌, ◌++◌, map, Option, Some, None, refl, ap, sym, subst, inl, inr, arith}
-use Rattle.std.specs.Prelude.{slice_get, slice_set, slice_index_or, length, ◌<◌}
+use Rattle.std.proofs.Common.{◌≡◌, ◌⊎◌, ℕ, zero, suc, List, [], ◌∷◌, ◌++◌, map, Some, refl, ap, sym, subst, inl, inr}
+use Rattle.std.specs.Prelude.{slice_get, slice_set}
 use Rattle.std.proofs.lemmas.Option.{same_Some}
-use Rattle.sm_defs.specs.Words.{Among, Found, found, next_place}
+use Rattle.sm_defs.specs.Words.{Among}
 use Rattle.sm_defs.specs.Volume.{Volume, Snapshot}
 use Rattle.sm_defs.specs.World.{Up, with_volume}
 use Rattle.sm_model.specs.Standing.{EachVolume, Stands}

@@ -1,6 +1,6 @@
 -- Counters do not go back, and no transfer gets a number that was given.
-use Rattle.std.proofs.Common.{◌≡◌, ◌⊎◌, ◌<◌, ◌≤◌, ℕ, zero, suc, Bool, true, List, [], ◌∷◌, ◌++◌, map, length, Option, Some, None, refl, sym, ap, subst, ◌∙◌, inl, inr, arith}
-use Rattle.std.specs.Prelude.{slice_set, slice_index_or}
+use Rattle.std.proofs.Common.{◌≡◌, ◌⊎◌, ◌<◌, ◌≤◌, ℕ, List, [], ◌∷◌, ◌++◌, map, length, Option, Some, None, refl, sym, ap, subst, ◌∙◌, inl, inr, arith}
+use Rattle.std.specs.Prelude.{slice_index_or}
 use Rattle.std.proofs.lemmas.Option.{same_Some}
 use Rattle.sm_base.specs.declared.numbers.Ident.{Ident}
 use Rattle.sm_defs.specs.Words.{Among}
@@ -9,19 +9,19 @@ use Rattle.sm_defs.specs.Relationship.{Relationship, Transfer}
 use Rattle.sm_defs.specs.World.{Up, volume_at, with_volume, with_relation}
 use Rattle.sm_model.specs.Standing.{EachTransfer}
 use Rattle.sm_model.specs.Answers.{Told}
-use Rattle.sm_model.specs.OfRelations.{has_a_half, with_halves, new_relation}
+use Rattle.sm_model.specs.OfRelations.{has_a_half, new_relation}
 use Rattle.sm_model.specs.OfTransfers.{with_transfer}
 use Rattle.sm_model.specs.Opened.{opened, reopened, rejoined, restarted}
 use Rattle.sm_model.specs.Running.{Running, IsRunning}
 use Rattle.sm_model.specs.Steps.{Effect, with_destination}
-use Rattle.sm_model.specs.Due.{StepKind, revert, finish, settle, prepare, prune, publish, checkpoint, ship, goes, settled_relation, IsEffect, IsStep, by_transfer, by_tidy}
+use Rattle.sm_model.specs.Due.{StepKind, revert, finish, settle, prepare, prune, publish, checkpoint, ship, settled_relation, IsEffect, IsStep, by_transfer, by_tidy}
 use Rattle.transfer_laws.proofs.Lists.{among_append, from_map, among_filter}
 use Rattle.step_laws.proofs.Walk.{going}
 use Rattle.step_laws.proofs.Members.{among_set, length_set}
 use Rattle.step_laws.proofs.Parties.{relation_stands}
 use Rattle.step_laws.proofs.Needs.{set_cases, push_within, mapped_at}
-use Rattle.step_laws.proofs.OfAnswer as answers
-use Rattle.step_laws.proofs.OfAnswer.{IsChange, IsAnswer, Follows, Starts}
+use Rattle.step_laws.proofs.Changes as answers
+use Rattle.step_laws.proofs.Changes.{IsChange, IsAnswer, Follows, Starts}
 
 -- a relationship's transfer has a new number, or stood before from the same source
 pub data FromOld (old : Up) (r : Relationship) (t : Transfer) : Type 0 where
@@ -113,10 +113,18 @@ of_change w u (answers.points v a) = goes_volume w v.at _ (rw a.at (omega arith)
 of_change w u (answers.breaks v a) = goes_volume w v.at _ (rw a.at (omega arith))
 of_change w u (answers.relates s d p) = record { count = omega arith; next = λ v l. omega arith; next_transfer = omega arith; transfers = goes_related w w.next_relation s d p }
 of_change w u (answers.changes r a q f) = goes_relation w r.at q (follows_from w r.item q a.among f)
-of_change w u (answers.halves r a q f) = record { count = omega arith; next = λ v l. omega arith; next_transfer = omega arith;
-  transfers = λ p t m e. (goes_relation w r.at q (follows_from w r.item q a.among f)).transfers p t (among_filter has_a_half _ p m).0 e }
-of_change w u (answers.starts r a q f) = record { count = omega arith; next = λ v l. omega arith; next_transfer = omega arith;
-  transfers = (goes_relation w r.at q (starts_from w r.item q f)).transfers }
+of_change w u (answers.halves r a q f) = record {
+  count = omega arith;
+  next = λ v l. omega arith;
+  next_transfer = omega arith;
+  transfers = λ p t m e. (goes_relation w r.at q (follows_from w r.item q a.among f)).transfers p t (among_filter has_a_half _ p m).0 e;
+}
+of_change w u (answers.starts r a q f) = record {
+  count = omega arith;
+  next = λ v l. omega arith;
+  next_transfer = omega arith;
+  transfers = (goes_relation w r.at q (starts_from w r.item q f)).transfers;
+}
 
 pub of_answer : (w u : Up) (t : Told) → IsAnswer w t u → Goes w u
 of_answer w u t (answers.plain p c) = of_change w u c
@@ -170,5 +178,5 @@ of_opened w = record {
   next = λ v l. rw (mapped_at reopened w.volumes no_volume v l) (omega arith);
   next_transfer = omega arith;
   transfers = λ r t m e. let (q, n, f) = from_map rejoined w.relations r m in
-    subst (λ y. FromOld w y t) (sym f) (restarted_from w q t q.transfer n refl (ap (λ y. y.transfer) (sym f) ∙ e));
+      subst (λ y. FromOld w y t) (sym f) (restarted_from w q t q.transfer n refl (ap (λ y. y.transfer) (sym f) ∙ e));
 }

@@ -1,11 +1,11 @@
 -- A running transfer of a sound world has a step due.
-use Rattle.std.proofs.Common.{◌≡◌, ◌≢◌, ◌⊎◌, ℕ, ◌&&◌, not, Bool, true, false, cond, List, [], ◌∷◌, Option, Some, None, refl, sym, ap, subst, ◌∙◌, inl, inr}
-use Rattle.std.proofs.lemmas.Bool.{and_parts, and_cases, not-false, both_ways}
+use Rattle.std.proofs.Common.{◌≡◌, ◌⊎◌, ℕ, ◌&&◌, not, Bool, true, false, cond, List, [], ◌∷◌, Option, Some, None, refl, sym, ap, subst, inl, inr}
+use Rattle.std.proofs.lemmas.Bool.{and_parts}
 use Rattle.sm_base.specs.declared.numbers.Ident.{Ident}
 use Rattle.sm_base.specs.declared.numbers.TransferKind.{TransferKind}
 use Rattle.sm_base.specs.declared.numbers.TransferKind.TheVariants.{Initialize, Update, Resync}
 use Rattle.sm_defs.specs.Words.{Among}
-use Rattle.sm_defs.specs.Volume.{Snapshot, has, is_rw}
+use Rattle.sm_defs.specs.Volume.{has, is_rw}
 use Rattle.sm_defs.specs.Relationship.{is_resync}
 use Rattle.sm_defs.specs.World.{Up}
 use Rattle.sm_model.specs.Crossed.{IsReservedLeg}

@@ -1,9 +1,8 @@
 -- `Idle` is answered exactly where nothing is due.
-use Rattle.std.proofs.Common.{◌≡◌, ◌≢◌, ◌↔◌, ◌⊎◌, ◌<◌, ◌≤◌, ℕ, zero, suc, Bool, true, false, cond, List, [], ◌∷◌, length, Option, Some, None, refl, sym, ap, subst, ◌∙◌, inl, inr, arith, true≢false, ltb-true}
+use Rattle.std.proofs.Common.{◌≡◌, ◌↔◌, ◌<◌, ℕ, zero, suc, Bool, true, false, cond, List, [], ◌∷◌, length, Option, Some, None, refl, sym, ap, subst, ◌∙◌, arith, true≢false}
 use Rattle.std.specs.Prelude.{slice_get, slice_index_or, ◌%◌, is_none}
 use Rattle.std.specs.List.{find}
 use Rattle.std.proofs.lemmas.Bool.{both_ways}
-use Rattle.sm_base.specs.declared.refusal.Reason.{Reason}
 use Rattle.sm_defs.specs.Words.{Among, Found}
 use Rattle.sm_defs.specs.Volume.{Snapshot, numbers}
 use Rattle.sm_defs.specs.Relationship.{Relationship, Transfer}
@@ -13,7 +12,7 @@ use Rattle.sm_model.specs.Sound.{SoundUp}
 use Rattle.sm_model.specs.LegsFit.{InWindow}
 use Rattle.sm_model.specs.Running.{Running, running_in, IsRunning}
 use Rattle.sm_model.specs.Steps.{Effect, cost}
-use Rattle.sm_model.specs.Due.{StepKind, revert, finish, settle, prepare, prune, publish, checkpoint, ship, kind_due, IsStep, by_transfer, by_tidy, tidy_due, IsIdle}
+use Rattle.sm_model.specs.Due.{StepKind, revert, finish, settle, prepare, prune, publish, checkpoint, ship, kind_due, by_transfer, by_tidy, tidy_due, IsIdle}
 use Rattle.sm_model.specs.Choice.{running_from, running, taken, shippable, shipped, effect_for, chosen_for, chosen_of, tidied, chosen}
 use Rattle.transfer_laws.proofs.Lists.{any_among}
 use Rattle.step_laws.specs.Idling.{EndsAtBase}

@@ -1,10 +1,10 @@
 -- What lands has the leg's contents, and what steps leave of a destination's list.
-use Rattle.std.proofs.Common.{◌≡◌, ◌≢◌, ◌⊎◌, ℕ, zero, suc, Bool, true, false, cond, List, [], ◌∷◌, ◌++◌, map, Option, Some, None, refl, sym, ap, subst, ◌∙◌, inl, inr}
+use Rattle.std.proofs.Common.{◌≡◌, ◌≢◌, ℕ, zero, suc, Bool, true, false, cond, List, [], ◌∷◌, ◌++◌, map, Option, Some, None, refl, sym, ap, subst, ◌∙◌, inr}
 use Rattle.std.specs.Prelude.{slice_get}
 use Rattle.std.proofs.lemmas.Option.{same_Some}
 use Rattle.sm_base.specs.declared.numbers.Ident.{Ident}
 use Rattle.sm_defs.specs.Words.{Among, up_to, same_ident}
-use Rattle.sm_defs.specs.Image.{Block, Image, hole, bytes_of, SameContents}
+use Rattle.sm_defs.specs.Image.{Block, Image, bytes_of, SameContents}
 use Rattle.sm_defs.specs.Volume.{Volume, Snapshot, has, image_of, free_tags}
 use Rattle.sm_defs.specs.Relationship.{Policy, is_mirror}
 use Rattle.sm_defs.specs.Retention.{retained}

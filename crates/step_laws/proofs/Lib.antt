@@ -1,5 +1,6 @@
 pub mod Walk
 pub mod Members
+pub mod Changes
 pub mod OfAnswer
 pub mod Deeds
 pub mod Opening

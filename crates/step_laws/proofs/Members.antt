@@ -1,11 +1,9 @@
 -- What stands in a list after it was changed.
-use Rattle.std.proofs.Common.{◌≡◌, ◌⊎◌, ℕ, zero, suc, ◌==◌, ◌&&◌, ◌||◌, Bool, true, false, cond, not, List, [], ◌∷◌, ◌++◌, map, Option, Some, None, refl, ap, ap₂, sym, subst, inl, inr, eqb-true, eq-eqb, arith}
-use Rattle.std.proofs.lemmas.Bool.{and_parts, and_from, or_cases, or_left, or_right}
+use Rattle.std.proofs.Common.{◌≡◌, ◌⊎◌, ℕ, zero, suc, ◌||◌, Bool, true, false, cond, List, [], ◌∷◌, Option, Some, None, refl, ap, sym, subst, inl, inr, arith}
 use Rattle.std.proofs.lemmas.Option.{same_Some}
 use Rattle.std.specs.Prelude.{slice_get, slice_set, slice_index_or, length, ◌<◌}
-use Rattle.std.specs.List.{filter, find, list_any, flat_map}
-use Rattle.sm_base.specs.declared.numbers.Ident.{Ident}
-use Rattle.sm_defs.specs.Words.{Among, Found, found, next_place, same_ident}
+use Rattle.std.specs.List.{find, list_any}
+use Rattle.sm_defs.specs.Words.{Among, Found, found, next_place}
 
 pub among_set : {X : Type 0} (xs : List X) (i : ℕ) (y x : X) → Among (slice_set xs i y) x → (x ≡ y) ⊎ Among xs x
 among_set [] i y x m = absurd m

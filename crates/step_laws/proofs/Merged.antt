@@ -1,5 +1,5 @@
 -- An image comes to a volume.
-use Rattle.std.proofs.Common.{◌≡◌, ◌≢◌, ◌⊎◌, ◌≤◌, ℕ, List, Option, Some, None, refl, sym, subst, inl, inr}
+use Rattle.std.proofs.Common.{◌≡◌, ◌≢◌, ◌⊎◌, ◌≤◌, ℕ, Some, refl, sym, subst, inl, inr}
 use Rattle.std.specs.Prelude.{slice_get}
 use Rattle.sm_defs.specs.Words.{KeysDiffer}
 use Rattle.sm_defs.specs.Image.{Block, Image, hole}
@@ -24,6 +24,7 @@ fits_merged v u image h k e d f = record { one_place = λ p q b c s t. both p q 
     both p q b c (inl i) (inr t) g n = k.across p q b c i t g n
     both p q b c (inr s) (inl j) g n = let z = k.across q p c b j s (sym g) (subst (λ y. y ≢ 0) g n) in (sym z.0, sym z.1)
     both p q b c (inr s) (inr t) g n = f.one_place p q b c s t g n
+
     low : (p : ℕ) (b : Block) → (slice_get image p ≡ Some b) ⊎ Stored v p b → b.tag ≤ u.physical
     low p b (inl i) = rw e (k.small p b i)
     low p b (inr s) = rw e (f.in_range p b s)

@@ -1,10 +1,10 @@
 -- What a relationship needs at its own two volumes.
-use Rattle.std.proofs.Common.{◌≡◌, ◌⊎◌, ℕ, ◌==◌, ◌&&◌, ◌||◌, Bool, true, false, List, [], ◌∷◌, Option, Some, None, refl, sym, ap, subst, ◌∙◌, inl, inr, eq-eqb}
+use Rattle.std.proofs.Common.{◌≡◌, true, Option, Some, refl, sym, subst, eq-eqb}
 use Rattle.std.proofs.lemmas.Bool.{and_from, or_left, or_right}
 use Rattle.sm_base.specs.declared.numbers.Ident.{Ident}
 use Rattle.sm_defs.specs.Words.{Among, is_ident, has_ident, same_ident}
 use Rattle.sm_defs.specs.Relationship.{Relationship, Transfer, legs_of}
-use Rattle.sm_defs.specs.Needed.{needed, needed_for, needed_at_source, needed_at_destination}
+use Rattle.sm_defs.specs.Needed.{needed, needed_for}
 use Rattle.sm_defs.specs.World.{Up}
 use Rattle.transfer_laws.proofs.Lists.{any_among, is_same}
 

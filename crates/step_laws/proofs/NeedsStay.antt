@@ -1,30 +1,30 @@
 -- No answer and no step drops what is needed.
-use Rattle.std.proofs.Common.{◌≡◌, ◌⊎◌, ◌<◌, ℕ, not, Bool, true, false, cond, List, [], ◌∷◌, ◌++◌, Option, Some, None, Ok, refl, sym, ap, subst, ◌∙◌, inl, inr}
+use Rattle.std.proofs.Common.{◌≡◌, ◌⊎◌, ℕ, Bool, true, false, cond, List, [], ◌∷◌, ◌++◌, Option, Some, None, Ok, refl, sym, ap, subst, ◌∙◌, inl, inr}
 use Rattle.std.proofs.lemmas.Bool.{and_left, and_right, not_from_true, both_ways, false_from_ne_true}
 use Rattle.sm_base.specs.declared.numbers.Ident.{Ident}
 use Rattle.sm_model.specs.declared.event.Event.{Event}
 use Rattle.sm_defs.specs.Words.{Among, same_ident, up_to}
 use Rattle.sm_defs.specs.Volume.{Volume, Snapshot, no_volume, has, without}
-use Rattle.sm_defs.specs.Relationship.{Policy, Relationship, is_mirror}
+use Rattle.sm_defs.specs.Relationship.{Policy, is_mirror}
 use Rattle.sm_defs.specs.Retention.{retained}
 use Rattle.sm_defs.specs.Needed.{needed, holder}
 use Rattle.sm_defs.specs.World.{Up, volume_at, with_volume}
 use Rattle.sm_model.specs.World.{Deed}
 use Rattle.sm_model.specs.Answers.{Reached, Told}
 use Rattle.sm_model.specs.Answer.{answer}
-use Rattle.sm_model.specs.OfVolumes.{with_snapshot}
 use Rattle.sm_model.specs.OfTransfers.{past, first_held, Holding}
 use Rattle.sm_model.specs.Opened.{opened, reopened}
 use Rattle.sm_model.specs.Running.{Running, IsRunning}
-use Rattle.sm_model.specs.Steps.{Effect, reverted, arrived, published, prepared_snapshot}
-use Rattle.sm_model.specs.Due.{StepKind, revert, finish, settle, prepare, prune, publish, checkpoint, ship, kind_due, IsEffect, IsStep, by_transfer, by_tidy, is_tidied, goes, held_reason}
+use Rattle.sm_model.specs.Steps.{Effect, reverted, arrived, published}
+use Rattle.sm_model.specs.Due.{StepKind, revert, finish, settle, prepare, prune, publish, checkpoint, ship, IsEffect, IsStep, by_transfer, by_tidy, is_tidied, goes, held_reason}
 use Rattle.sm_model.specs.LegalRun.{IsStepDeed, IsDeed}
 use Rattle.transfer_laws.proofs.Lists.{same_is, among_left, copy_from_has, has_from_copy}
 use Rattle.transfer_laws.proofs.Kept.{keeps_needed}
 use Rattle.step_laws.specs.Needs.{KeepsNeeded}
 use Rattle.step_laws.proofs.Walk.{going}
-use Rattle.step_laws.proofs.OfAnswer as answers
-use Rattle.step_laws.proofs.OfAnswer.{IsChange, IsAnswer, VolumeAt, Is, of_answer}
+use Rattle.step_laws.proofs.Changes as answers
+use Rattle.step_laws.proofs.Changes.{IsChange, IsAnswer, VolumeAt, Is}
+use Rattle.step_laws.proofs.OfAnswer.{of_answer}
 use Rattle.step_laws.proofs.Deeds.{IsAnswered, from_answer, deed_cases}
 use Rattle.step_laws.proofs.Needs.{keeps_set, push_within, has_within, mapped_at, without_keeps, split_at, no_holder, none_held}
 

@@ -1,6 +1,5 @@
 -- Opening again changes nothing.
 use Rattle.std.proofs.Common.{◌≡◌, List, [], ◌∷◌, map, Option, Some, None, refl, ap, ap₂}
-use Rattle.sm_defs.specs.Volume.{Volume}
 use Rattle.sm_defs.specs.Relationship.{Relationship, Transfer}
 use Rattle.sm_defs.specs.World.{Up}
 use Rattle.sm_model.specs.Opened.{opened, reopened, rejoined, restarted}

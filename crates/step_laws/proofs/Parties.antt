@@ -1,13 +1,10 @@
 -- The volumes of a running transfer stand in the world.
-use Rattle.std.proofs.Common.{◌≡◌, ◌<◌, ℕ, Bool, true, false, cond, ◌||◌, List, [], ◌∷◌, length, Option, Some, None, refl, sym, ap, subst, inl, inr, arith, true≢false, ◌∙◌}
-use Rattle.std.specs.List.{find}
-use Rattle.std.proofs.lemmas.Option.{same_Some}
+use Rattle.std.proofs.Common.{◌≡◌, ℕ, Bool, true, false, cond, ◌||◌, List, [], ◌∷◌, Option, Some, refl, sym, ap, subst, true≢false, ◌∙◌}
 use Rattle.sm_base.specs.declared.numbers.Ident.{Ident}
 use Rattle.sm_defs.specs.Words.{Among, same_ident}
-use Rattle.sm_defs.specs.Volume.{Volume, Snapshot, no_volume, has}
-use Rattle.sm_defs.specs.Relationship.{Relationship, Transfer}
-use Rattle.sm_defs.specs.World.{Up, volume_at, no_relation}
-use Rattle.sm_model.specs.Crossed.{Crossed, CrossedRelation}
+use Rattle.sm_defs.specs.Volume.{Snapshot, no_volume, has}
+use Rattle.sm_defs.specs.World.{Up, no_relation}
+use Rattle.sm_model.specs.Crossed.{Crossed}
 use Rattle.sm_model.specs.Running.{Running, IsRunning}
 use Rattle.sm_model.specs.Steps.{snapshot_of}
 use Rattle.transfer_laws.proofs.Lists.{same_is, has_from_copy}

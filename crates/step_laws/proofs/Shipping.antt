@@ -1,18 +1,17 @@
 -- Where Ship is due some index may be shipped.
-use Rattle.std.proofs.Common.{◌≡◌, ◌≢◌, ◌⊎◌, ◌<◌, ◌≤◌, ◌+◌, ℕ, zero, suc, ◌==◌, ◌&&◌, nat_lt, not, Bool, true, false, cond, List, [], ◌∷◌, length, Option, Some, None, refl, sym, ap, subst, ◌∙◌, inl, inr, arith, true≢false}
-use Rattle.std.specs.List.{list_all, filter}
+use Rattle.std.proofs.Common.{◌≡◌, ◌≢◌, ◌⊎◌, ◌<◌, ◌≤◌, ◌+◌, ℕ, zero, suc, ◌==◌, ◌&&◌, nat_lt, not, Bool, true, false, cond, List, [], ◌∷◌, length, refl, sym, subst, inl, inr, arith}
+use Rattle.std.specs.List.{list_all}
 use Rattle.std.proofs.lemmas.Bool.{and_from, and_cases, not_from_false, eqb-false, lt-ltb, both_ways, cases_eq, false_from_ne_true}
 use Rattle.sm_defs.specs.Limits.{window}
 use Rattle.sm_defs.specs.Words.{Among}
 use Rattle.sm_defs.specs.Image.{stands}
 use Rattle.sm_defs.specs.Volume.{numbers}
-use Rattle.sm_defs.specs.Relationship.{Transfer}
 use Rattle.sm_model.specs.LegsFit.{Ascends, InWindow}
 use Rattle.sm_model.specs.OfTransfers.{prefix_from, landed_prefix}
 use Rattle.sm_model.specs.Running.{Running}
 use Rattle.sm_model.specs.Steps.{may_ship, all_landed, at_checkpoint}
 use Rattle.sm_model.specs.Choice.{shippable}
-use Rattle.transfer_laws.proofs.Lists.{stands_among, among_stands, filter_among}
+use Rattle.transfer_laws.proofs.Lists.{stands_among, filter_among}
 use Rattle.transfer_laws.proofs.Asc.{among_each}
 use Rattle.step_laws.proofs.Needs.{within_or_beyond}
 
@@ -74,14 +73,17 @@ no_others lo (x ∷ xs) a h k t m = go m (λ u. no_others (suc lo) xs a.1 above 
         by : (lo ≡ x) ⊎ Among xs lo → x ≡ lo
         by (inl e) = sym e
         by (inr n) = absurd (let b = among_each (λ l. x < l) xs lo a.0 n in let c = h x (inl refl) in omega arith)
+
     above : (u : ℕ) → Among xs u → suc lo ≤ u
     above u n = let b = among_each (λ l. x < l) xs u a.0 n in let f = first in omega arith
+
     later : (j : ℕ) → suc lo ≤ j → j < suc lo + length xs → Among xs j
     later j g l = by (k j (omega arith) (omega arith))
       where
         by : (j ≡ x) ⊎ Among xs j → Among xs j
         by (inl e) = absurd (let f = first in omega arith)
         by (inr n) = n
+
     go : (t ≡ x) ⊎ Among xs t → ((u : ℕ) → Among xs u → u < suc lo + length xs) → t < lo + length (x ∷ xs)
     go (inl e) rest = let f = first in omega arith
     go (inr n) rest = let b = rest t n in omega arith
@@ -91,7 +93,7 @@ not_next landed a p h = go (order p (length landed) (let t = h.to in omega arith
   where
     go : (length landed ≡ p) ⊎ (suc p ≤ length landed) → stands p landed ≡ false
     go (inl e) = false_from_ne_true (stands p landed) (λ s.
-      let b = no_others 0 landed a (λ t m. omega arith) (λ j g l. stands_among j landed (h.all j (omega arith) (omega arith))) p (stands_among p landed s) in omega arith)
+        let b = no_others 0 landed a (λ t m. omega arith) (λ j g l. stands_among j landed (h.all j (omega arith) (omega arith))) p (stands_among p landed s) in omega arith)
     go (inr l) = h.next (omega arith)
 
 -- ---- an index that may be shipped

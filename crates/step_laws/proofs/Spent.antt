@@ -1,5 +1,5 @@
 -- An identity that was given is never made again.
-use Rattle.std.proofs.Common.{◌≡◌, ◌⊎◌, ◌<◌, ◌≤◌, ◌+◌, ◌*◌, ℕ, zero, suc, Bool, true, false, List, [], ◌∷◌, ◌++◌, length, Option, Some, None, refl, sym, ap, ap₂, subst, ◌∙◌, inl, inr, arith, true≢false}
+use Rattle.std.proofs.Common.{◌≡◌, ◌<◌, ◌+◌, ◌*◌, ℕ, Bool, true, false, [], ◌∷◌, length, Some, refl, sym, ap, ap₂, subst, ◌∙◌, inl, arith}
 use Rattle.sm_base.specs.declared.numbers.Ident.{Ident}
 use Rattle.sm_defs.specs.Words.{Among}
 use Rattle.sm_defs.specs.Volume.{Volume, Snapshot, has}
@@ -60,9 +60,11 @@ standing_spent w v s k h = go (n.seq)
   where
     n : Rattle.sm_model.specs.NumbersStand.NumberStands w s
     n = k.numbers_stand.snapshots v s h
+
     there : (r : Relationship) (t : Transfer) → Among w.relations r → r.transfer ≡ Some t → t.reserved ≡ true → s.ident ≡ made_ident r.source t.number → (b : Bool) → has (volume_at w r.source).snapshots (made_ident r.source t.number) ≡ b → b ≡ true
     there r t m e z f true g = refl
     there r t m e z f false g = absurd (lacked v.snapshots (made_ident r.source t.number) s (k.numbers_stand.unmade r t m e z g v h.0) h.1 f)
+
     go : IsNumbered w s → Spent w s.ident
     go (clients c x) = by_client c x.seq n.origin x.given
     go (transfers number x) = by_transfer number x.seq x.given (λ r t m e z f. subst (λ j. has (volume_at w r.source).snapshots j ≡ true) (sym f)

@@ -1,5 +1,5 @@
 -- Tags fit what a step makes of a destination.
-use Rattle.std.proofs.Common.{◌≡◌, ◌≢◌, ◌⊎◌, ◌≤◌, ◌==◌, ◌&&◌, ℕ, Bool, true, false, cond, not, List, [], ◌∷◌, ◌++◌, map, Option, Some, None, refl, sym, ap, subst, ◌∙◌, inl, inr, true≢false}
+use Rattle.std.proofs.Common.{◌≡◌, ◌≢◌, ◌⊎◌, ◌==◌, ◌&&◌, ℕ, Bool, true, false, cond, not, List, [], ◌∷◌, ◌++◌, Option, Some, None, refl, sym, ap, subst, ◌∙◌, inl, inr, true≢false}
 use Rattle.std.proofs.lemmas.Bool.{eqb-false, and_from}
 use Rattle.std.specs.Prelude.{slice_get}
 use Rattle.sm_base.specs.declared.numbers.Kind.{Kind}
@@ -37,6 +37,7 @@ reverted_fits x base m f = fits_fewer x.destination (reverted x base) go refl (t
   where
     at : Among (images_of x.destination) base.image
     at = inr (inr (among_map image_of x.destination.snapshots base m))
+
     go : ImagesFrom x.destination (reverted x base)
     go image (inl e) = subst (Among (images_of x.destination)) (sym e) at
     go image (inr (inl e)) = subst (Among (images_of x.destination)) (sym e) at
@@ -48,12 +49,15 @@ published_fits w x leg a k f = fits_merged x.destination (published w x leg) (la
   where
     same : leg.ident ≡ a.i
     same = (snapshot_is x.source.snapshots a.i leg a.source).1
+
     thins : Thinned (list_published w x (arrived x leg)) (x.destination.snapshots ++ arrived x leg ∷ [])
     thins = published_thins w x (arrived x leg)
+
     from : (p : ℕ) (b : Block) (image : Image) (t : Snapshot) → image ≡ t.image → slice_get image p ≡ Some b → Among x.destination.snapshots t ⊎ Among (arrived x leg ∷ []) t → (slice_get (landing x leg) p ≡ Some b) ⊎ Stored x.destination p b
     from p b image t i e (inl m) = inr (in_snapshot x.destination t p b m (subst (λ y. slice_get y p ≡ Some b) i e))
     from p b image t i e (inr (inl j)) = inl (subst (λ y. slice_get y p ≡ Some b) (i ∙ ap image_of j) e)
     from p b image t i e (inr (inr m)) = elim m [ ]
+
     go : StoredIn x.destination (published w x leg) (landing x leg)
     go p b (image, inl i, e) = inl (subst (λ y. slice_get y p ≡ Some b) i e)
     go p b (image, inr (inl i), e) = inl (subst (λ y. slice_get y p ≡ Some b) i e)
@@ -70,6 +74,7 @@ dp_stored v h p b s = go v.snapshots refl
     in_one n image (inl i) e = let (t, m, a) = h.at n in inr (t, m, subst (λ y. slice_get y p ≡ Some b) (i ∙ a) e)
     in_one n image (inr (inl i)) e = let (t, m, a) = h.at n in inr (t, m, subst (λ y. slice_get y p ≡ Some b) (i ∙ (h.still n ∙ a)) e)
     in_one n image (inr (inr m)) e = let (t, k, i) = from_map image_of v.snapshots image m in inr (t, k, subst (λ y. slice_get y p ≡ Some b) i e)
+
     go : (ss : List Snapshot) → v.snapshots ≡ ss → (b ≡ hole) ⊎ ((t : Snapshot) × Among v.snapshots t × (slice_get t.image p ≡ Some b))
     go [] e = inl (h.blank e p b s)
     go (t ∷ ts) e = in_one (λ z. absurd (cc)) s.0 s.1 s.2
@@ -87,17 +92,22 @@ mirror_fits : (w : Up) (k : ℕ) (x : Running) (leg : Snapshot) → SoundUp w �
 mirror_fits w k x leg s r a u m d = record {
   itself = λ p q b c i j. (s.tags_fit x.source stands_there).one_place p q b c (in_snapshot x.source leg p b there i) (in_snapshot x.source leg q c there j);
   small = λ p b i. rw (sym same_size) ((s.tags_fit x.source stands_there).in_range p b (in_snapshot x.source leg p b there i));
-  across = λ p q b c i t g n. go p q b c i g n (dp_stored x.destination (s.destinations_stand.volumes x.destination (destination_stands w k x r s.crossed) d) q c t) }
+  across = λ p q b c i t g n. go p q b c i g n (dp_stored x.destination (s.destinations_stand.volumes x.destination (destination_stands w k x r s.crossed) d) q c t);
+}
   where
     there : Among x.source.snapshots leg
     there = (snapshot_is x.source.snapshots a.i leg a.source).0
+
     stands_there : Among w.volumes x.source
     stands_there = source_stands w k x r s.crossed
+
     same_size : x.source.physical ≡ x.destination.physical
     same_size = subst (λ y. is_mirror y.policy.kind ≡ true → y.source.physical ≡ y.destination.physical) (sym r.is) (s.crossed.relations x.relation (relation_stands w k x r)).physical m
+
     fit : FitsSource x
     fit = subst FitsSource (sym r.is)
         ((s.legs_fit x.relation x.transfer (relation_stands w k x r) r.transfer).mirror (subst (λ y. is_mirror y.policy.kind ≡ true) r.is m) (checked (is_mirror x.policy.kind) x.transfer.pruned x.transfer.checkpoint u m))
+
     go : (p q : ℕ) (b c : Block) → slice_get leg.image p ≡ Some b → b.tag ≡ c.tag → b.tag ≢ 0 → (c ≡ hole) ⊎ ((t : Snapshot) × Among x.destination.snapshots t × (slice_get t.image q ≡ Some c)) → (p ≡ q) × (b ≡ c)
     go p q b c i g n (inl e) = absurd (n (g ∙ (ap (λ y. y.tag) e ∙ hole_tag)))
     go p q b c i g n (inr (t, m, e)) = fit.agree leg t there (rw (snapshot_is x.source.snapshots a.i leg a.source).1 (rw a.legs (inl refl))) m p q b c i e g n

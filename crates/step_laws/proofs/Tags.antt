@@ -1,21 +1,19 @@
 -- Tags still fit in a volume that was changed.
-use Rattle.std.proofs.Common.{◌≡◌, ◌≢◌, ◌⊎◌, ◌≤◌, ℕ, zero, suc, ◌==◌, ◌&&◌, ◌||◌, Bool, true, false, cond, not, List, [], ◌∷◌, ◌++◌, map, Option, Some, None, refl, ap, sym, subst, ◌∙◌, inl, inr, eqb-true, eq-eqb, arith, zero-le, ◌+◌}
+use Rattle.std.proofs.Common.{◌≡◌, ◌≢◌, ◌⊎◌, ◌≤◌, ℕ, zero, suc, ◌==◌, ◌||◌, Bool, true, false, cond, not, List, [], ◌∷◌, ◌++◌, map, Some, refl, ap, sym, subst, ◌∙◌, inl, inr, eq-eqb, arith, zero-le, ◌+◌}
 use Rattle.std.proofs.lemmas.Bool.{or_left, or_right, or_cases, both_ways, not-true}
 use Rattle.std.proofs.lemmas.Option.{same_Some}
-use Rattle.std.specs.Prelude.{slice_get, slice_set, slice_index_or, length, ◌<◌}
+use Rattle.std.specs.Prelude.{slice_get, ◌<◌}
 use Rattle.std.specs.List.{filter, list_any, flat_map, AllByRecursion}
-use Rattle.sm_base.specs.declared.numbers.Kind.TheVariants.{Rw, Dp}
-use Rattle.sm_base.specs.declared.numbers.Ident.{Ident}
 use Rattle.sm_defs.specs.Words.{Among, KeysDiffer}
 use Rattle.sm_defs.specs.Image.{Block, Image, tags, tag_of, stands, full_block}
-use Rattle.sm_defs.specs.Volume.{Volume, Snapshot, ident_of, image_of, images_of, tags_of, free_tags, numbers, without}
-use Rattle.sm_model.specs.Standing.{Stored, EachVolume, Stands}
-use Rattle.sm_model.specs.TagsFit.{TagsFitIn, TagsFit}
+use Rattle.sm_defs.specs.Volume.{Volume, Snapshot, ident_of, image_of, images_of, tags_of, free_tags, numbers}
+use Rattle.sm_model.specs.Standing.{Stored}
+use Rattle.sm_model.specs.TagsFit.{TagsFitIn}
 use Rattle.sm_model.specs.OfVolumes.{first_of, written, at_point, with_snapshot}
 use Rattle.sm_model.specs.Opened.{reopened}
-use Rattle.transfer_laws.proofs.Lists.{among_append, from_map, among_map, any_among}
+use Rattle.transfer_laws.proofs.Lists.{among_append, from_map, among_map}
 use Rattle.sm_defs.specs.Thinned.{Thinned}
-use Rattle.step_laws.proofs.Thinned.{filter_thins, thinned_among, thinned_map, thinned_differ}
+use Rattle.step_laws.proofs.Thinned.{thinned_among, thinned_map, thinned_differ}
 use Rattle.step_laws.proofs.Frames.{get_set}
 
 -- each image of u is one of v
@@ -29,7 +27,8 @@ pub fits_fewer : (v u : Volume) → ImagesFrom v u → u.physical ≡ v.physical
 fits_fewer v u h e d f = record {
   one_place = λ p q b c s t. f.one_place p q b c (stored_from v u h p b s) (stored_from v u h q c t);
   in_range = λ p b s. rw e (f.in_range p b (stored_from v u h p b s));
-  idents_differ = d }
+  idents_differ = d;
+}
 
 pub pointed_fits : (v : Volume) → TagsFitIn v → TagsFitIn (at_point v)
 pointed_fits v f = fits_fewer v (at_point v) go refl f.idents_differ f
@@ -78,6 +77,7 @@ snapped_fits v s e d f = fits_fewer v (with_snapshot v s) go refl (differ_push i
     one image t i (inl m) = inr (inr (subst (Among (map image_of v.snapshots)) (sym i) (among_map image_of v.snapshots t m)))
     one image t i (inr (inl k)) = inl (i ∙ (ap image_of k ∙ e))
     one image t i (inr (inr k)) = elim k [ ]
+
     go : ImagesFrom v (with_snapshot v s)
     go image (inl e) = inl e
     go image (inr (inl e)) = inl e
@@ -150,13 +150,15 @@ pub fits_fresh : (v u : Volume) (k : ℕ) (y : Block) → StoredOr v u k y → (
 fits_fresh v u k y h new small e d f = record {
   one_place = λ p q b c s t. both p q b c (h p b s) (h q c t);
   in_range = λ p b s. low p b (h p b s);
-  idents_differ = d }
+  idents_differ = d;
+}
   where
     both : (p q : ℕ) (b c : Block) → ((p ≡ k) × (b ≡ y)) ⊎ Stored v p b → ((q ≡ k) × (c ≡ y)) ⊎ Stored v q c → b.tag ≡ c.tag → b.tag ≢ 0 → (p ≡ q) × (b ≡ c)
     both p q b c (inl (i, j)) (inl (l, m)) g n = (i ∙ sym l, j ∙ sym m)
     both p q b c (inl (i, j)) (inr t) g n = absurd (new (subst (λ x. x.tag ≢ 0) j n) q c t (sym g ∙ ap tag_of j))
     both p q b c (inr s) (inl (l, m)) g n = absurd (new (subst (λ x. x ≢ 0) (g ∙ ap tag_of m) n) p b s (g ∙ ap tag_of m))
     both p q b c (inr s) (inr t) g n = f.one_place p q b c s t g n
+
     low : (p : ℕ) (b : Block) → ((p ≡ k) × (b ≡ y)) ⊎ Stored v p b → b.tag ≤ u.physical
     low p b (inl (i, j)) = rw (ap tag_of j) small
     low p b (inr s) = rw e (f.in_range p b s)
@@ -174,6 +176,7 @@ written_fits v block fill f =
         ((p ≡ block) × (b ≡ full_block (first_of (free_tags v)) fill)) ⊎ Stored v p b
     at image p b (inl e) = inl e
     at image p b (inr e) = inr (v.active, inl refl, e)
+
     go : StoredOr v (written v block fill) block (full_block (first_of (free_tags v)) fill)
     go p b (image, inl m, e) = at image p b (get_set v.active block _ p b (subst (λ x. slice_get x p ≡ Some b) m e))
     go p b (image, inr m, e) = inr (image, inr m, e)

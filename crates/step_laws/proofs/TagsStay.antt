@@ -1,25 +1,24 @@
 -- Tags fit after each answer, each step and each restart.
-use Rattle.std.proofs.Common.{◌≡◌, ◌≢◌, ◌⊎◌, ◌≤◌, ℕ, zero, suc, Bool, true, false, List, [], ◌∷◌, ◌++◌, Option, Some, None, Ok, refl, sym, ap, subst, ◌∙◌, inl, inr, zero-le}
+use Rattle.std.proofs.Common.{◌≡◌, ◌⊎◌, ℕ, zero, suc, Bool, List, Option, Some, refl, sym, ap, subst, ◌∙◌, inl, inr, zero-le}
 use Rattle.std.specs.Prelude.{slice_get, replicate}
 use Rattle.std.proofs.lemmas.Option.{same_Some}
 use Rattle.sm_base.specs.declared.numbers.Kind.{Kind}
 use Rattle.sm_base.specs.declared.numbers.Kind.TheVariants.{Rw}
 use Rattle.sm_model.specs.declared.event.Event.{Event}
 use Rattle.sm_defs.specs.Words.{Among, Found, found}
-use Rattle.sm_defs.specs.Image.{Block, Image, hole}
-use Rattle.sm_defs.specs.Volume.{Volume, Snapshot, no_volume, new_volume, without}
+use Rattle.sm_defs.specs.Image.{Block, hole}
+use Rattle.sm_defs.specs.Volume.{Volume, no_volume, new_volume, without}
 use Rattle.sm_defs.specs.World.{Up, volume_at, with_volume}
 use Rattle.sm_model.specs.World.{Deed}
 use Rattle.sm_model.specs.Answers.{Told}
 use Rattle.sm_model.specs.TagsFit.{TagsFit, TagsFitIn}
-use Rattle.sm_model.specs.NumbersStand.{NumbersStand}
 use Rattle.sm_model.specs.Sound.{SoundUp}
 use Rattle.sm_model.specs.Standing.{Stored}
 use Rattle.sm_model.specs.OfVolumes.{with_snapshot, client_snapshot, snapped}
 use Rattle.sm_model.specs.Opened.{opened, reopened}
 use Rattle.sm_model.specs.Running.{Running, IsRunning}
-use Rattle.sm_model.specs.Steps.{Effect, reverted, prepared_snapshot}
-use Rattle.sm_model.specs.Due.{StepKind, revert, finish, settle, prepare, prune, publish, checkpoint, ship, kind_due, reserved_leg, IsEffect, IsStep, by_transfer, by_tidy, is_tidied, goes}
+use Rattle.sm_model.specs.Steps.{Effect, prepared_snapshot}
+use Rattle.sm_model.specs.Due.{StepKind, reserved_leg, IsEffect, IsStep, by_transfer, by_tidy, goes}
 use Rattle.sm_model.specs.LegalRun.{IsStepDeed, IsDeed}
 use Rattle.step_laws.proofs.Walk.{going}
 use Rattle.step_laws.proofs.Members.{among_get_or}
@@ -33,8 +32,8 @@ use Rattle.step_laws.proofs.Landing.{base_member}
 use Rattle.step_laws.proofs.Brings.{reserved_fresh, tidy_within}
 use Rattle.step_laws.proofs.Merged.{hole_tag}
 use Rattle.step_laws.proofs.StepTags.{reverted_fits, published_fits, landing_fits}
-use Rattle.step_laws.proofs.OfAnswer as answers
-use Rattle.step_laws.proofs.OfAnswer.{IsChange, IsAnswer, VolumeAt}
+use Rattle.step_laws.proofs.Changes as answers
+use Rattle.step_laws.proofs.Changes.{IsChange, IsAnswer, VolumeAt}
 use Rattle.step_laws.proofs.Deeds.{IsAnswered, deed_cases}
 
 -- ---- a new volume
@@ -99,7 +98,7 @@ of_effect w k x kind e s r (due_finish base a f) i = subst Fit (sym i) s.tags_fi
 of_effect w k x kind e s r (due_settle j later a f) i = subst Fit (sym i) s.tags_fit
 of_effect w k x kind e s r (due_prepare a f) i = subst Fit (sym i) (going Fit w k x _ _ (λ _. s.tags_fit)
     (λ _. each_set TagsFitIn w x.relation.source _ s.tags_fit (snapped_fits x.source (prepared_snapshot w x (reserved_leg x)) refl
-        (λ t m. reserved_fresh w k x s r a f x.source t (source_stands w k x r s.crossed, m)) (s.tags_fit x.source (source_stands w k x r s.crossed)))))
+    (λ t m. reserved_fresh w k x s r a f x.source t (source_stands w k x r s.crossed, m)) (s.tags_fit x.source (source_stands w k x r s.crossed)))))
 of_effect w k x kind e s r (due_prune leg a b) i = subst Fit (sym i) (going Fit w k x _ _ (λ _. s.tags_fit)
     (λ _. at_destination w k x (without (goes w x) x.destination) s r (thinned_fits x.destination _ (filter_thins _ x.destination.snapshots))))
 of_effect w k x kind e s r (due_publish leg a b c) i = subst Fit (sym i) (going Fit w k x _ _ (λ _. s.tags_fit)

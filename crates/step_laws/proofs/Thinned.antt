@@ -1,5 +1,5 @@
 -- A list with some members left out.
-use Rattle.std.proofs.Common.{◌≡◌, ◌⊎◌, Bool, true, false, cond, List, [], ◌∷◌, map, inl, inr}
+use Rattle.std.proofs.Common.{◌≡◌, Bool, true, false, cond, List, [], ◌∷◌, map, inl, inr}
 use Rattle.std.specs.List.{filter, AllByRecursion}
 use Rattle.sm_defs.specs.Words.{Among, KeysDiffer, up_to}
 use Rattle.sm_defs.specs.Thinned.{Thinned, end, kept, left_out}

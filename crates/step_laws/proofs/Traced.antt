@@ -1,22 +1,21 @@
 -- Each deed is traced.
-use Rattle.std.proofs.Common.{◌≡◌, ◌⊎◌, Bool, true, false, Option, Some, None, refl, sym, ap, subst, ◌∙◌, inl, inr}
+use Rattle.std.proofs.Common.{◌≡◌, ◌⊎◌, false, Some, None, refl, sym, ap, subst, ◌∙◌, inl, inr}
 use Rattle.std.proofs.lemmas.Bool.{false_from_ne_true}
 use Rattle.sm_base.specs.declared.numbers.Ident.{Ident}
 use Rattle.sm_model.specs.declared.event.Event.{Event}
 use Rattle.sm_defs.specs.Words.{is_ident, same_ident}
-use Rattle.sm_defs.specs.Image.{bytes_of, SameContents}
+use Rattle.sm_defs.specs.Image.{bytes_of}
 use Rattle.std.proofs.Common.{map}
-use Rattle.sm_defs.specs.Volume.{Volume, Snapshot}
-use Rattle.sm_defs.specs.World.{Up, volume_at}
+use Rattle.sm_defs.specs.Volume.{Snapshot}
+use Rattle.sm_defs.specs.World.{Up}
 use Rattle.sm_model.specs.World.{Deed}
-use Rattle.sm_model.specs.Standing.{Stands}
 use Rattle.sm_model.specs.Origin.{made_by, makes}
 use Rattle.sm_model.specs.LegalRun.{IsDeed}
 use Rattle.sm_model.specs.Sound.{SoundUp}
 use Rattle.transfer_laws.proofs.Lists.{same_is, is_same}
 use Rattle.step_laws.specs.Contents.{WasThere, WasTaken, IsTraced}
 use Rattle.step_laws.proofs.Copies.{ComesFrom}
-use Rattle.step_laws.proofs.Brings.{Brings, copies, one_new, IsNew, deed_brings}
+use Rattle.step_laws.proofs.Brings.{Brings, copies, one_new, deed_brings}
 
 pub makes_none : (d : Deed) (i : Ident) → made_by d.reply ≡ None → makes i d ≡ false
 makes_none d i e = subst (λ o. is_ident o i ≡ false) (sym e) refl

@@ -1,12 +1,12 @@
 -- What lands on a vault fits its tags.
-use Rattle.std.proofs.Common.{◌≡◌, ◌≢◌, ◌⊎◌, ◌≤◌, ◌<◌, ◌+◌, ◌==◌, ◌&&◌, ℕ, zero, suc, Bool, true, false, cond, not, List, [], ◌∷◌, map, Option, Some, None, refl, sym, ap, subst, ◌∙◌, inl, inr, arith, true≢false, zero-le}
+use Rattle.std.proofs.Common.{◌≡◌, ◌≢◌, ◌⊎◌, ◌≤◌, ◌<◌, ◌==◌, ℕ, zero, suc, Bool, true, false, cond, not, List, [], ◌∷◌, Some, refl, sym, ap, subst, ◌∙◌, inl, inr, arith, zero-le}
 use Rattle.std.proofs.lemmas.Bool.{both_ways, not-true}
 use Rattle.std.proofs.lemmas.Option.{same_Some}
 use Rattle.std.specs.Prelude.{slice_get}
-use Rattle.std.specs.List.{AllByRecursion, filter}
+use Rattle.std.specs.List.{AllByRecursion}
 use Rattle.sm_defs.specs.Words.{Among, KeysDiffer}
 use Rattle.sm_defs.specs.Image.{Block, Image, hole, stands}
-use Rattle.sm_defs.specs.Volume.{Volume, Snapshot, free_tags, numbers, tags_of}
+use Rattle.sm_defs.specs.Volume.{Volume, free_tags, numbers, tags_of}
 use Rattle.sm_defs.specs.Missing.{is_missing_at, first_tag, rest, moved, first_number, first_block, landed_from, Bases, vault_landing}
 use Rattle.sm_model.specs.Standing.{Stored}
 use Rattle.sm_model.specs.TagsFit.{TagsFitIn}
@@ -157,19 +157,23 @@ blocks_fit : (v : Volume) (leg old base : Image) → ((p : ℕ) (b : Block) → 
 blocks_fit v leg old base h f = record {
   itself = λ p q b c e i g n. two p q b c e i g n (landed_at leg old base (free_tags v) p b e n) (landed_at leg old base (free_tags v) q c i (subst (λ y. y ≢ 0) g n));
   small = λ p b e. low p b e (zero_or_not b.tag);
-  across = λ p q b c e s g n. one p q b c s g n (landed_at leg old base (free_tags v) p b e n) }
+  across = λ p q b c e s g n. one p q b c s g n (landed_at leg old base (free_tags v) p b e n);
+}
   where
     zero_or_not : (n : ℕ) → (n ≡ 0) ⊎ (n ≢ 0)
     zero_or_not zero = inl refl
     zero_or_not (suc n) = inr (λ e. omega arith)
+
     two : (p q : ℕ) (b c : Block) → slice_get (landed_blocks leg old base (free_tags v)) p ≡ Some b → slice_get (landed_blocks leg old base (free_tags v)) q ≡ Some c → b.tag ≡ c.tag → b.tag ≢ 0 →
         (slice_get base p ≡ Some b) ⊎ Among (free_tags v) b.tag → (slice_get base q ≡ Some c) ⊎ Among (free_tags v) c.tag → (p ≡ q) × (b ≡ c)
     two p q b c e i g n (inl x) (inl y) = f.one_place p q b c (h p b x) (h q c y) g n
     two p q b c e i g n (inr x) _ = landed_apart leg old base (free_tags v) (free_differ v) (λ r y k. free_unstored v r y (h r y k)) p q b c e i g n x
     two p q b c e i g n (inl x) (inr y) = absurd (free_unstored v p b (h p b x) (subst (Among (free_tags v)) (sym g) y))
+
     one : (p q : ℕ) (b c : Block) → Stored v q c → b.tag ≡ c.tag → b.tag ≢ 0 → (slice_get base p ≡ Some b) ⊎ Among (free_tags v) b.tag → (p ≡ q) × (b ≡ c)
     one p q b c s g n (inl x) = f.one_place p q b c (h p b x) s g n
     one p q b c s g n (inr x) = absurd (free_unstored v q c s (subst (Among (free_tags v)) g x))
+
     low : (p : ℕ) (b : Block) → slice_get (landed_blocks leg old base (free_tags v)) p ≡ Some b → (b.tag ≡ 0) ⊎ (b.tag ≢ 0) → b.tag ≤ v.physical
     low p b e (inl z) = rw z zero-le
     low p b e (inr n) = by (landed_at leg old base (free_tags v) p b e n)
