@@ -58,17 +58,17 @@ come_pushed w v e u s (m, n) = go (among_append w.volumes (v ∷ []) u m)
     go (inr (inl f)) = absurd (subst (λ ss. Among ss s) (ap (λ y. y.snapshots) f ∙ e) n)
     go (inr (inr k)) = absurd k
 
-pub of_change : (w u : Up) → IsChange w u → AllCome w u
-of_change w u (answers.elsewhere other e f g) = λ v s h. stays w v s (subst (λ vs. Among vs v) e h.0, h.1)
-of_change w u (answers.creates path disk kind number logical physical) = come_pushed w _ refl
-of_change w u (answers.writes v a block fill) = come_thinned w v.at v.item _ a.among (all_kept v.item.snapshots)
-of_change w u (answers.drops v a i free) = come_thinned w v.at v.item _ a.among (filter_thins _ v.item.snapshots)
-of_change w u (answers.points v a) = come_thinned w v.at v.item _ a.among (all_kept v.item.snapshots)
-of_change w u (answers.breaks v a) = come_thinned w v.at v.item _ a.among (all_kept v.item.snapshots)
-of_change w u (answers.relates s d p) = stays w
-of_change w u (answers.changes r a q f) = stays w
-of_change w u (answers.halves r a q f) = stays w
-of_change w u (answers.starts r a q f) = stays w
+pub of_change : (w u : Up) (ev : Event) → IsChange w ev u → AllCome w u
+of_change w u ev (answers.elsewhere other e f g j) = λ v s h. stays w v s (subst (λ vs. Among vs v) e h.0, h.1)
+of_change w u ev (answers.creates path disk kind number logical physical) = come_pushed w _ refl
+of_change w u ev (answers.writes v a block fill) = come_thinned w v.at v.item _ a.among (all_kept v.item.snapshots)
+of_change w u ev (answers.drops path name so v is a s named free) = come_thinned w v.at v.item _ a.among (filter_thins _ v.item.snapshots)
+of_change w u ev (answers.points v a) = come_thinned w v.at v.item _ a.among (all_kept v.item.snapshots)
+of_change w u ev (answers.breaks v a) = come_thinned w v.at v.item _ a.among (all_kept v.item.snapshots)
+of_change w u ev (answers.relates s d p) = stays w
+of_change w u ev (answers.changes r a q f) = stays w
+of_change w u ev (answers.halves r a q f) = stays w
+of_change w u ev (answers.starts r a q f) = stays w
 
 -- one snapshot came last to a volume
 come_one : (w : Up) (i : ℕ) (v u : Volume) (f : Snapshot) → Among w.volumes v → u.snapshots ≡ v.snapshots ++ f ∷ [] → (z : Volume) (s : Snapshot) → Stands (with_volume w i u) z s → ComesFrom w s ⊎ (s ≡ f)
@@ -99,10 +99,10 @@ pub snap_brings : (w : Up) (v : Found Volume) (name : List ℕ) (label : Option 
 unfolding made_by
 snap_brings w v name label s a p is = of_snap w v name label s a p is _ refl
 
-of_answer : (w u : Up) (t : Told) → SoundUp w → IsAnswer w t u → (reply : Reply) → Tells t reply → Brings w reply u
+of_answer : (w u : Up) (ev : Event) (t : Told) → SoundUp w → IsAnswer w ev t u → (reply : Reply) → Tells t reply → Brings w reply u
 unfolding made_by
-of_answer w u t s (answers.plain p c) reply e = copies (of_change w u c) (p reply e).makes_none
-of_answer w u t s (answers.snaps v a p is name label) reply e = of_snap w v name label s a p is reply (rw e refl)
+of_answer w u ev t s (answers.plain p c) reply e = copies (of_change w u ev c) (p reply e).makes_none
+of_answer w u ev t s (answers.snaps v a p is path name label so) reply e = of_snap w v name label s a p is reply (rw e refl)
 
 -- ---- steps
 
@@ -176,6 +176,6 @@ step_brings w e s (by_tidy n d i) = subst (By w) (sym i)
 pub deed_brings : (e : Event) (d : Deed) → SoundUp d.old → IsDeed e d → Brings d.old d.reply d.new
 deed_brings e d s i = go (deed_cases e d i)
   where
-    go : IsStepDeed d ⊎ IsAnswered d → Brings d.old d.reply d.new
+    go : IsStepDeed d ⊎ IsAnswered e d → Brings d.old d.reply d.new
     go (inl t) = step_brings d.old _ s t
-    go (inr a) = of_answer d.old d.new a.tells s a.is d.reply a.reply
+    go (inr a) = of_answer d.old d.new e a.tells s a.is d.reply a.reply

@@ -25,9 +25,9 @@ use Rattle.step_laws.proofs.Along.{Along, Progress, brought_progress, along_deed
 deed_goes : (e : Event) (d : Deed) → IsDeed e d → Goes d.old d.new
 deed_goes e d i = go (deed_cases e d i)
   where
-    go : IsStepDeed d ⊎ IsAnswered d → Goes d.old d.new
+    go : IsStepDeed d ⊎ IsAnswered e d → Goes d.old d.new
     go (inl s) = goes.of_step d.old _ s
-    go (inr a) = goes.of_answer d.old d.new a.tells a.is
+    go (inr a) = goes.of_answer d.old d.new e a.tells a.is
 
 deed_progress : (e : Event) (d : Deed) → SoundUp d.old → IsDeed e d → Progress d
 deed_progress e d s i = brought_progress d (deed_brings e d s i) (deed_goes e d i) (reserved_stays d.old d.new s (deeds_keep e d i))

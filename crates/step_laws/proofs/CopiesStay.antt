@@ -25,18 +25,18 @@ use Rattle.step_laws.proofs.Brings.{Brings, copies, one_new, step_brings, deed_b
 use Rattle.step_laws.proofs.TagsStay as tags
 
 pub answers_keep_tags : (w : Up) (e : Event) (reached : Reached) → SoundUp w → answer w e ≡ Some (Ok reached) → TagsFit reached.world
-answers_keep_tags w e reached s i = tags.of_answer w reached.world reached.reply s (from_answer (Is w) (answer w e) reached (of_answer w e) i)
+answers_keep_tags w e reached s i = tags.of_answer w reached.world e reached.reply s (from_answer (Is w e) (answer w e) reached (of_answer w e) i)
 
 pub brought_agree : (w u : Up) (reply : Reply) → CopiesAgree w → Brings w reply u → CopiesAgree u
 brought_agree w u reply k (copies h e) = copies_come w u h k
 brought_agree w u reply k (one_new f n h e z) = copies_fresh w u f h n.fresh k
 
-answered_agree : (w u : Up) (t : Told) → SoundUp w → IsAnswer w t u → CopiesAgree u
-answered_agree w u t s (answers.plain p c) = copies_come w u (brings.of_change w u c) s.copies_agree
-answered_agree w u t s (answers.snaps v a p is name label) = brought_agree w u _ s.copies_agree (brings.snap_brings w v name label s a p is)
+answered_agree : (w u : Up) (ev : Event) (t : Told) → SoundUp w → IsAnswer w ev t u → CopiesAgree u
+answered_agree w u ev t s (answers.plain p c) = copies_come w u (brings.of_change w u ev c) s.copies_agree
+answered_agree w u ev t s (answers.snaps v a p is path name label so) = brought_agree w u _ s.copies_agree (brings.snap_brings w v name label s a p is)
 
 pub answers_keep_copies : (w : Up) (e : Event) (reached : Reached) → SoundUp w → answer w e ≡ Some (Ok reached) → CopiesAgree reached.world
-answers_keep_copies w e reached s i = answered_agree w reached.world reached.reply s (from_answer (Is w) (answer w e) reached (of_answer w e) i)
+answers_keep_copies w e reached s i = answered_agree w reached.world e reached.reply s (from_answer (Is w e) (answer w e) reached (of_answer w e) i)
 
 pub steps_keep_copies : (w : Up) (e : Effect) → SoundUp w → IsStep w e → CopiesAgree e.world
 steps_keep_copies w e s i = brought_agree w e.world e.reply s.copies_agree (step_brings w e s i)

@@ -18,10 +18,10 @@ use Rattle.step_laws.proofs.Changes.{Is, IsAnswer, plain, snaps}
 use Rattle.step_laws.proofs.OfAnswer.{OfAnswer, of_answer}
 
 -- an answer that is no refusal
-pub record IsAnswered (d : Deed) : Type 0 where
+pub record IsAnswered (e : Event) (d : Deed) : Type 0 where
   pub tells : Told
   pub reply : Tells tells d.reply
-  pub is : IsAnswer d.old tells d.new
+  pub is : IsAnswer d.old e tells d.new
 
 -- of an answer without a refusal
 pub from_answer : (P : Reached → Type 0) (o : Option Answer) (reached : Reached) → OfAnswer P o → o ≡ Some (Ok reached) → P reached
@@ -32,29 +32,29 @@ from_answer P (Some a) reached h e = from_ok P a reached h (same a reached e)
     same : (a : Answer) (x : Reached) → ◌≡◌ {A = Option Answer} (Some a) (Some (Ok x)) → a ≡ Ok x
     same a x e = cc
 
-of_done : (o : Option Answer) (d : Deed) → OfAnswer (Is d.old) o → IsDone o d → IsAnswered d
+of_done : (e : Event) (o : Option Answer) (d : Deed) → OfAnswer (Is d.old e) o → IsDone o d → IsAnswered e d
 unfolding OfAnswer OfOk
-of_done None d h i = absurd i
-of_done (Some (Ok x)) d h (t, e) = record { tells = x.reply; reply = t; is = subst (IsAnswer d.old x.reply) (sym e) h }
-of_done (Some (Err r)) d h i = absurd i
+of_done e None d h i = absurd i
+of_done e (Some (Ok x)) d h (t, f) = record { tells = x.reply; reply = t; is = subst (IsAnswer d.old e x.reply) (sym f) h }
+of_done e (Some (Err r)) d h i = absurd i
 
-pub deed_cases : (e : Event) (d : Deed) → IsDeed e d → IsStepDeed d ⊎ IsAnswered d
+pub deed_cases : (e : Event) (d : Deed) → IsDeed e d → IsStepDeed d ⊎ IsAnswered e d
 unfolding IsDeed
 deed_cases (events.Work shown) d i = inl i
-deed_cases e d i = inr (of_done (answer d.old e) d (of_answer d.old e) i)
+deed_cases e d i = inr (of_done e (answer d.old e) d (of_answer d.old e) i)
 
 -- ---- no refusal
 
 abbrev pub NoRefusal : Reply → Type 0
 NoRefusal reply = (r : Refusal) → ¬ (reply ≡ replies.Refused r)
 
-answer_accepted : (w u : Up) (t : Told) → IsAnswer w t u → (reply : Reply) → Tells t reply → NoRefusal reply
-answer_accepted w u t (plain p c) reply e = (p reply e).accepted
-answer_accepted w u t (snaps v a p is name label) reply e = λ r f. cc
+answer_accepted : (w u : Up) (ev : Event) (t : Told) → IsAnswer w ev t u → (reply : Reply) → Tells t reply → NoRefusal reply
+answer_accepted w u ev t (plain p c) reply e = (p reply e).accepted
+answer_accepted w u ev t (snaps v a p is path name label so) reply e = λ r f. cc
 
 pub ok_is_no_refusal : (w : Up) (e : Event) (reached : Reached) (reply : Reply) (r : Refusal) →
     answer w e ≡ Some (Ok reached) → Tells reached.reply reply → ¬ (reply ≡ replies.Refused r)
-ok_is_no_refusal w e reached reply r i t = answer_accepted w reached.world reached.reply (from_answer (Is w) (answer w e) reached (of_answer w e) i) reply t r
+ok_is_no_refusal w e reached reply r i t = answer_accepted w reached.world e reached.reply (from_answer (Is w e) (answer w e) reached (of_answer w e) i) reply t r
 
 abbrev Accepted : Effect → Type 0
 Accepted e = NoRefusal e.reply
@@ -79,6 +79,6 @@ steps_are_no_refusals w e r s = of_step w e s r
 pub deeds_are_no_refusals : (e : Event) (d : Deed) (r : Refusal) → IsDeed e d → ¬ (d.reply ≡ replies.Refused r)
 deeds_are_no_refusals e d r i = go (deed_cases e d i)
   where
-    go : IsStepDeed d ⊎ IsAnswered d → ¬ (d.reply ≡ replies.Refused r)
+    go : IsStepDeed d ⊎ IsAnswered e d → ¬ (d.reply ≡ replies.Refused r)
     go (inl s) = steps_are_no_refusals d.old _ r s
-    go (inr a) = answer_accepted d.old d.new a.tells a.is d.reply a.reply r
+    go (inr a) = answer_accepted d.old d.new e a.tells a.is d.reply a.reply r

@@ -47,21 +47,21 @@ ends_related w n s d p h r t m e b = go (among_append w.relations (new_relation 
     go (inr (inl f)) = absurd (let g : (new_relation n s d p).transfer ≡ Some t = ap (λ y. y.transfer) (sym f) ∙ e in cc)
     go (inr (inr k)) = absurd k
 
-of_change : (w u : Up) → EndsAtBase w → IsChange w u → EndsAtBase u
-of_change w u h (answers.elsewhere other e f g) = λ r t m. h r t (subst (λ rs. Among rs r) f m)
-of_change w u h (answers.creates path disk kind number logical physical) = h
-of_change w u h (answers.writes v a block fill) = h
-of_change w u h (answers.drops v a i free) = h
-of_change w u h (answers.points v a) = h
-of_change w u h (answers.breaks v a) = h
-of_change w u h (answers.relates s d p) = ends_related w w.next_relation s d p h
-of_change w u h (answers.changes r a q f) = ends_relation w r.at q h (follows_so w r.item q h a.among f)
-of_change w u h (answers.halves r a q f) = λ p t m. ends_relation w r.at q h (follows_so w r.item q h a.among f) p t (among_filter has_a_half _ p m).0
-of_change w u h (answers.starts r a q f) = ends_relation w r.at q h f.ends
+of_change : (w u : Up) (ev : Event) → EndsAtBase w → IsChange w ev u → EndsAtBase u
+of_change w u ev h (answers.elsewhere other e f g j) = λ r t m. h r t (subst (λ rs. Among rs r) f m)
+of_change w u ev h (answers.creates path disk kind number logical physical) = h
+of_change w u ev h (answers.writes v a block fill) = h
+of_change w u ev h (answers.drops path name so v is a s named free) = h
+of_change w u ev h (answers.points v a) = h
+of_change w u ev h (answers.breaks v a) = h
+of_change w u ev h (answers.relates s d p) = ends_related w w.next_relation s d p h
+of_change w u ev h (answers.changes r a q f) = ends_relation w r.at q h (follows_so w r.item q h a.among f)
+of_change w u ev h (answers.halves r a q f) = λ p t m. ends_relation w r.at q h (follows_so w r.item q h a.among f) p t (among_filter has_a_half _ p m).0
+of_change w u ev h (answers.starts r a q f) = ends_relation w r.at q h f.ends
 
-of_answer : (w u : Up) (t : Told) → EndsAtBase w → IsAnswer w t u → EndsAtBase u
-of_answer w u t h (answers.plain p c) = of_change w u h c
-of_answer w u t h (answers.snaps v a p is name label) = h
+of_answer : (w u : Up) (ev : Event) (t : Told) → EndsAtBase w → IsAnswer w ev t u → EndsAtBase u
+of_answer w u ev t h (answers.plain p c) = of_change w u ev h c
+of_answer w u ev t h (answers.snaps v a p is path name label so) = h
 
 -- ---- steps
 
@@ -92,9 +92,9 @@ of_step w e h (by_tidy n d i) = subst By (sym i) h
 pub deeds_keep_ends : (e : Event) (d : Deed) → EndsAtBase d.old → IsDeed e d → EndsAtBase d.new
 deeds_keep_ends e d h i = go (deed_cases e d i)
   where
-    go : IsStepDeed d ⊎ IsAnswered d → EndsAtBase d.new
+    go : IsStepDeed d ⊎ IsAnswered e d → EndsAtBase d.new
     go (inl s) = of_step d.old _ h s
-    go (inr a) = of_answer d.old d.new a.tells h a.is
+    go (inr a) = of_answer d.old d.new e a.tells h a.is
 
 -- ---- restarts
 

@@ -40,26 +40,26 @@ one_more : (w : Up) (k : ℕ) (v u : Volume) (s : Snapshot) → volume_at w k �
 one_more w k v u s e f = keeps_set w k u (λ i h n. let (t, m, q) = copy_from_has v.snapshots i (subst (λ y. has y.snapshots i ≡ true) e h) in
     subst (λ ss. has ss i ≡ true) (sym f) (has_from_copy (v.snapshots ++ s ∷ []) i (t, among_left v.snapshots (s ∷ []) t m, q)))
 
-of_change : (w u : Up) → IsChange w u → KeepsNeeded w u
-of_change w u (answers.elsewhere other e f g) = same_volumes w other e
-of_change w u (answers.creates path disk kind number logical physical) = λ v i h n.
+of_change : (w u : Up) (ev : Event) → IsChange w ev u → KeepsNeeded w u
+of_change w u ev (answers.elsewhere other e f g j) = same_volumes w other e
+of_change w u ev (answers.creates path disk kind number logical physical) = λ v i h n.
     subst (λ y. has y.snapshots i ≡ true) (sym (push_within w.volumes _ no_volume v (has_within w v i h))) h
-of_change w u (answers.writes v a block fill) = all_stay w v.at v.item _ a.at refl
-of_change w u (answers.drops v a i free) = keeps_set w v.at _ (λ j h n. without_keeps (λ t. same_ident t.ident i) v.item j (subst (λ y. has y.snapshots j ≡ true) a.at h)
-    (λ t e. false_from_ne_true _ (λ z. both_ways (needed w v.at j) (subst (λ y. needed w v.at y ≡ false) (sym (same_is t.ident i z) ∙ e) (no_holder w v.at i free)) n)))
-of_change w u (answers.points v a) = all_stay w v.at v.item _ a.at refl
-of_change w u (answers.breaks v a) = all_stay w v.at v.item _ a.at refl
-of_change w u (answers.relates s d p) = λ v i h n. h
-of_change w u (answers.changes r a q f) = λ v i h n. h
-of_change w u (answers.halves r a q f) = λ v i h n. h
-of_change w u (answers.starts r a q f) = λ v i h n. h
+of_change w u ev (answers.writes v a block fill) = all_stay w v.at v.item _ a.at refl
+of_change w u ev (answers.drops path name so v is a s named free) = keeps_set w v.at _ (λ j h n. without_keeps (λ t. same_ident t.ident s.ident) v.item j (subst (λ y. has y.snapshots j ≡ true) a.at h)
+    (λ t e. false_from_ne_true _ (λ z. both_ways (needed w v.at j) (subst (λ y. needed w v.at y ≡ false) (sym (same_is t.ident s.ident z) ∙ e) (no_holder w v.at s.ident free)) n)))
+of_change w u ev (answers.points v a) = all_stay w v.at v.item _ a.at refl
+of_change w u ev (answers.breaks v a) = all_stay w v.at v.item _ a.at refl
+of_change w u ev (answers.relates s d p) = λ v i h n. h
+of_change w u ev (answers.changes r a q f) = λ v i h n. h
+of_change w u ev (answers.halves r a q f) = λ v i h n. h
+of_change w u ev (answers.starts r a q f) = λ v i h n. h
 
-of_kind : (w u : Up) (t : Told) → IsAnswer w t u → KeepsNeeded w u
-of_kind w u t (answers.plain p c) = of_change w u c
-of_kind w u t (answers.snaps v a p is name label) = one_more w v.at v.item _ _ a.at refl
+of_kind : (w u : Up) (ev : Event) (t : Told) → IsAnswer w ev t u → KeepsNeeded w u
+of_kind w u ev t (answers.plain p c) = of_change w u ev c
+of_kind w u ev t (answers.snaps v a p is path name label so) = one_more w v.at v.item _ _ a.at refl
 
 pub answers_keep : (w : Up) (e : Event) (reached : Reached) → answer w e ≡ Some (Ok reached) → KeepsNeeded w reached.world
-answers_keep w e reached i = of_kind w reached.world reached.reply (from_answer (Is w) (answer w e) reached (of_answer w e) i)
+answers_keep w e reached i = of_kind w reached.world e reached.reply (from_answer (Is w e) (answer w e) reached (of_answer w e) i)
 
 -- ---- steps
 
@@ -111,9 +111,9 @@ steps_keep w e (by_tidy k d i) = subst (Keeps w) (sym i) (keeps_set w k (without
 pub deeds_keep : (e : Event) (d : Deed) → IsDeed e d → KeepsNeeded d.old d.new
 deeds_keep e d i = go (deed_cases e d i)
   where
-    go : IsStepDeed d ⊎ IsAnswered d → KeepsNeeded d.old d.new
+    go : IsStepDeed d ⊎ IsAnswered e d → KeepsNeeded d.old d.new
     go (inl s) = steps_keep d.old _ s
-    go (inr a) = of_kind d.old d.new a.tells a.is
+    go (inr a) = of_kind d.old d.new e a.tells a.is
 
 pub restarts_keep : (w : Up) (v : ℕ) (i : Ident) → has (volume_at w v).snapshots i ≡ true → has (volume_at (opened w) v).snapshots i ≡ true
 restarts_keep w v i h = subst (λ u. has u.snapshots i ≡ true) (sym (mapped_at reopened w.volumes no_volume v (has_within w v i h))) h

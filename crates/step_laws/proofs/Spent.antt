@@ -37,7 +37,7 @@ spent_stays old new i g k (by_transfer number e l h) = by_transfer number e (let
   where
     go : (r : Relationship) (t : Transfer) → t.reserved ≡ true → i ≡ made_ident r.source t.number → FromOld old r t → has (volume_at new r.source).snapshots i ≡ true
     go r t z s (new_one n) = absurd (let q : i.seq ≡ 2 * t.number + 1 = seq_of_made i r.source t.number s in omega arith)
-    go r t z s (old_one q u m f a b c) =
+    go r t z s (old_one q u m f a b c j) =
         let y : i ≡ made_ident q.source u.number = s ∙ ap₂ made_ident c a in
         let d = h q u m f (sym b ∙ z) y in
         let there : has (volume_at new q.source).snapshots i ≡ true = subst (λ j. has (volume_at new q.source).snapshots j ≡ true) (sym y) (k q u m f (sym b ∙ z) (subst (λ j. has (volume_at old q.source).snapshots j ≡ true) y d)) in

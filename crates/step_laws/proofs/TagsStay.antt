@@ -63,25 +63,25 @@ counted_fits v n f = record { one_place = f.one_place; in_range = f.in_range; id
 writable_fits : (v : Volume) → TagsFitIn v → TagsFitIn (record v { kind = Rw })
 writable_fits v f = record { one_place = f.one_place; in_range = f.in_range; idents_differ = f.idents_differ }
 
-of_change : (w u : Up) → TagsFit w → IsChange w u → TagsFit u
-of_change w u h (answers.elsewhere other e f g) = λ v m. h v (subst (λ vs. Among vs v) e m)
-of_change w u h (answers.creates path disk kind number logical physical) = each_push TagsFitIn w.volumes _ h (new_fits path disk kind number logical physical)
-of_change w u h (answers.writes v a block fill) = each_set TagsFitIn w v.at _ h (written_fits v.item block fill (h v.item a.among))
-of_change w u h (answers.drops v a i free) = each_set TagsFitIn w v.at _ h (thinned_fits v.item _ (filter_thins _ v.item.snapshots) (h v.item a.among))
-of_change w u h (answers.points v a) = each_set TagsFitIn w v.at _ h (pointed_fits v.item (h v.item a.among))
-of_change w u h (answers.breaks v a) = each_set TagsFitIn w v.at _ h (writable_fits v.item (h v.item a.among))
-of_change w u h (answers.relates s d p) = h
-of_change w u h (answers.changes r a q f) = h
-of_change w u h (answers.halves r a q f) = h
-of_change w u h (answers.starts r a q f) = h
+of_change : (w u : Up) (ev : Event) → TagsFit w → IsChange w ev u → TagsFit u
+of_change w u ev h (answers.elsewhere other e f g j) = λ v m. h v (subst (λ vs. Among vs v) e m)
+of_change w u ev h (answers.creates path disk kind number logical physical) = each_push TagsFitIn w.volumes _ h (new_fits path disk kind number logical physical)
+of_change w u ev h (answers.writes v a block fill) = each_set TagsFitIn w v.at _ h (written_fits v.item block fill (h v.item a.among))
+of_change w u ev h (answers.drops path name so v is a s named free) = each_set TagsFitIn w v.at _ h (thinned_fits v.item _ (filter_thins _ v.item.snapshots) (h v.item a.among))
+of_change w u ev h (answers.points v a) = each_set TagsFitIn w v.at _ h (pointed_fits v.item (h v.item a.among))
+of_change w u ev h (answers.breaks v a) = each_set TagsFitIn w v.at _ h (writable_fits v.item (h v.item a.among))
+of_change w u ev h (answers.relates s d p) = h
+of_change w u ev h (answers.changes r a q f) = h
+of_change w u ev h (answers.halves r a q f) = h
+of_change w u ev h (answers.starts r a q f) = h
 
 of_snap : (w : Up) (v : Found Volume) (p : Volume → Bool) (name : List ℕ) (label : Option (List ℕ)) → SoundUp w → VolumeAt w v → found p w.volumes ≡ Some v → TagsFit (with_volume w v.at (snapped v.at w.clock v.item name label))
 of_snap w v p name label s a is = each_set TagsFitIn w v.at _ s.tags_fit (counted_fits (with_snapshot v.item (client_snapshot v.at w.clock v.item name label)) _
     (snapped_fits v.item (client_snapshot v.at w.clock v.item name label) refl (λ t m. client_fresh w p v s.numbers_stand is v.item t (a.among, m)) (s.tags_fit v.item a.among)))
 
-pub of_answer : (w u : Up) (t : Told) → SoundUp w → IsAnswer w t u → TagsFit u
-of_answer w u t s (answers.plain p c) = of_change w u s.tags_fit c
-of_answer w u t s (answers.snaps v a p is name label) = of_snap w v p name label s a is
+pub of_answer : (w u : Up) (ev : Event) (t : Told) → SoundUp w → IsAnswer w ev t u → TagsFit u
+of_answer w u ev t s (answers.plain p c) = of_change w u ev s.tags_fit c
+of_answer w u ev t s (answers.snaps v a p is path name label so) = of_snap w v p name label s a is
 
 -- ---- steps
 
@@ -114,9 +114,9 @@ of_step w e s (by_tidy n d i) = subst Fit (sym i) (each_set TagsFitIn w n _ s.ta
 pub of_deed : (e : Event) (d : Deed) → SoundUp d.old → IsDeed e d → TagsFit d.new
 of_deed e d s i = go (deed_cases e d i)
   where
-    go : IsStepDeed d ⊎ IsAnswered d → TagsFit d.new
+    go : IsStepDeed d ⊎ IsAnswered e d → TagsFit d.new
     go (inl t) = of_step d.old _ s t
-    go (inr a) = of_answer d.old d.new a.tells s a.is
+    go (inr a) = of_answer d.old d.new e a.tells s a.is
 
 pub of_opened : (w : Up) → TagsFit w → TagsFit (opened w)
 of_opened w h = each_mapped TagsFitIn reopened w.volumes (λ v m. reopened_fits v (h v m))
