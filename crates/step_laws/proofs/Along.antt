@@ -66,16 +66,16 @@ pub record Progress (d : Deed) : Type 0 where
   pub anew : (i : Ident) → Spent d.old i → makes i d ≡ false
   pub given : (i : Ident) → makes i d ≡ true → Spent d.new i
 
-pub brought_progress : (d : Deed) → Brings d.old d.reply d.new → Goes d.old d.new → KeepsReserved d.old d.new → Progress d
-brought_progress d b g k = record { traced = brought_traced d b; stays = λ i s. spent_stays d.old d.new i g k s; anew = anew b; given = given b }
+pub brought_progress : {Given : Type 0} (d : Deed) → Brings d.old Given d.reply d.new → Goes d.old d.new → KeepsReserved d.old d.new → Progress d
+brought_progress {Given} d b g k = record { traced = brought_traced d b; stays = λ i s. spent_stays d.old d.new i g k s; anew = anew b; given = given b }
   where
-    anew : Brings d.old d.reply d.new → (i : Ident) → Spent d.old i → makes i d ≡ false
+    anew : Brings d.old Given d.reply d.new → (i : Ident) → Spent d.old i → makes i d ≡ false
     anew (copies h e) i s = makes_none d i e
-    anew (one_new f n h e z) i s = makes_one d i f.ident e ∙ Rattle.std.proofs.lemmas.Bool.false_from_ne_true (same_ident f.ident i) (λ q. n.unspent (subst (Spent d.old) (sym (same_is f.ident i q)) s))
+    anew (one_new f n h e z b) i s = makes_one d i f.ident e ∙ Rattle.std.proofs.lemmas.Bool.false_from_ne_true (same_ident f.ident i) (λ q. n.unspent (subst (Spent d.old) (sym (same_is f.ident i q)) s))
 
-    given : Brings d.old d.reply d.new → (i : Ident) → makes i d ≡ true → Spent d.new i
+    given : Brings d.old Given d.reply d.new → (i : Ident) → makes i d ≡ true → Spent d.new i
     given (copies h e) i m = absurd (true≢false (sym m ∙ makes_none d i e))
-    given (one_new f n h e z) i m = subst (Spent d.new) (same_is f.ident i (sym (makes_one d i f.ident e) ∙ m)) z
+    given (one_new f n h e z b) i m = subst (Spent d.new) (same_is f.ident i (sym (makes_one d i f.ident e) ∙ m)) z
 
 -- a deed whose making was known would be made again
 unknown : (start : Up) (ds : List Deed) (d : Deed) (i : Ident) → Along start ds d.old → Progress d → makes i d ≡ true → (o : Option Image) → origin start ds i ≡ o → o ≡ None

@@ -1,5 +1,5 @@
 -- What takes effect brings no snapshot but copies of those that stood, or one that is new.
-use Rattle.std.proofs.Common.{◌≡◌, ◌⊎◌, ◌<◌, ℕ, Bool, true, false, List, [], ◌∷◌, ◌++◌, length, Option, Some, None, refl, sym, ap, subst, ◌∙◌, inl, inr, ltb-true, arith, true≢false}
+use Rattle.std.proofs.Common.{◌≡◌, ◌⊎◌, ◌<◌, ◌+◌, ◌*◌, ℕ, Bool, true, false, List, [], ◌∷◌, ◌++◌, length, Option, Some, None, refl, sym, ap, subst, ◌∙◌, inl, inr, ltb-true, arith, true≢false}
 use Rattle.std.proofs.lemmas.Bool.{and_parts}
 use Rattle.sm_model.specs.declared.event.Event.{Event}
 use Rattle.sm_model.specs.declared.reply.Reply.{Reply}
@@ -12,8 +12,12 @@ use Rattle.sm_model.specs.Answers.{Told, Tells}
 use Rattle.sm_model.specs.Standing.{Stands}
 use Rattle.sm_model.specs.CopiesAgree.{IsCopy}
 use Rattle.sm_model.specs.Sound.{SoundUp}
+use Rattle.sm_model.specs.InRange.{IsGiven, IsSnap}
+use Rattle.sm_model.specs.NumbersStand.{NumberStands, clients, transfers}
+use Rattle.sm_model.specs.declared.event.Event.TheVariants as events
+use Rattle.step_laws.proofs.Numbered.{Apart}
+use Rattle.step_laws.proofs.TransferNumbers.{same_relation}
 use Rattle.sm_model.specs.Origin.{made_by}
-use Rattle.sm_model.specs.declared.reply.Reply.TheVariants as replies
 use Rattle.sm_model.specs.OfVolumes.{client_ident, snapped, with_snapshot, client_snapshot}
 use Rattle.sm_model.specs.Running.{Running, IsRunning}
 use Rattle.sm_model.specs.Steps.{Effect, reverted, arrived, published, prepared_snapshot}
@@ -40,9 +44,14 @@ pub record IsNew (w : Up) (f : Snapshot) : Type 0 where
   pub fresh : (v : Volume) (s : Snapshot) → Stands w v s → ¬ (s.ident ≡ f.ident)
   pub unspent : ¬ (Spent w f.ident)
 
-pub data Brings (w : Up) (reply : Reply) (u : Up) : Type 0 where
-  copies : AllCome w u → made_by reply ≡ None → Brings w reply u
-  one_new : (f : Snapshot) → IsNew w f → ((v : Volume) (s : Snapshot) → Stands u v s → ComesFrom w s ⊎ (s ≡ f)) → made_by reply ≡ Some f.ident → Spent u f.ident → Brings w reply u
+-- the new snapshot's number, where the event can be asked for, and that it is no leg that a source lacks
+pub record HasNumber (w : Up) (f : Snapshot) (Given : Type 0) : Type 0 where
+  pub stands : Given → NumberStands w f
+  pub apart : Apart w f
+
+pub data Brings (w : Up) (Given : Type 0) (reply : Reply) (u : Up) : Type 0 where
+  copies : AllCome w u → made_by reply ≡ None → Brings w Given reply u
+  one_new : (f : Snapshot) → IsNew w f → ((v : Volume) (s : Snapshot) → Stands u v s → ComesFrom w s ⊎ (s ≡ f)) → made_by reply ≡ Some f.ident → Spent u f.ident → HasNumber u f Given → Brings w Given reply u
 
 -- ---- answers
 
@@ -88,21 +97,35 @@ client_spent : (w : Up) (v : Found Volume) (name : List ℕ) (label : Option (Li
 client_spent w v name label l = by_client v.item.next refl (rw (length_set w.volumes v.at (snapped v.at w.clock v.item name label)) l)
     (rw (set_at w.volumes v.at (snapped v.at w.clock v.item name label) no_volume l) (omega arith))
 
-of_snap : (w : Up) (v : Found Volume) (name : List ℕ) (label : Option (List ℕ)) → SoundUp w → VolumeAt w v → (p : Volume → Bool) → found p w.volumes ≡ Some v → (reply : Reply) → made_by reply ≡ Some (client_snapshot v.at w.clock v.item name label).ident →
-    Brings w reply (with_volume w v.at (snapped v.at w.clock v.item name label))
-of_snap w v name label s a p is reply e = one_new (client_snapshot v.at w.clock v.item name label)
+client_number : (w : Up) (ev : Event) (v : Found Volume) (path name : List ℕ) (label : Option (List ℕ)) → SoundUp w → VolumeAt w v → v.at < length w.volumes → ev ≡ events.Snap path name label →
+    HasNumber (with_volume w v.at (snapped v.at w.clock v.item name label)) (client_snapshot v.at w.clock v.item name label) (IsGiven ev)
+unfolding IsGiven
+client_number w ev v path name label s a l so = record {
+  stands = λ given. record {
+    origin = rw (length_set w.volumes v.at (snapped v.at w.clock v.item name label)) l;
+    seq = clients v.item.next (record {
+      seq = refl;
+      counts = (s.formed.volumes v.item a.among).counted.0;
+      given = rw (set_at w.volumes v.at (snapped v.at w.clock v.item name label) no_volume l) (omega arith);
+      maker = refl;
+      name = (let g : IsSnap path name label = subst IsGiven so given in g).clients;
+    });
+  };
+  apart = λ r t m e z lacks i. (let q : 2 * v.item.next ≡ 2 * t.number + 1 = ap (λ j. j.seq) i in omega arith);
+}
+
+of_snap : (w : Up) (ev : Event) (v : Found Volume) (path name : List ℕ) (label : Option (List ℕ)) → SoundUp w → VolumeAt w v → (p : Volume → Bool) → found p w.volumes ≡ Some v → ev ≡ events.Snap path name label →
+    (reply : Reply) → made_by reply ≡ Some (client_snapshot v.at w.clock v.item name label).ident → Brings w (IsGiven ev) reply (with_volume w v.at (snapped v.at w.clock v.item name label))
+of_snap w ev v path name label s a p is so reply e =
+    let l : v.at < length w.volumes = found_within p w.volumes v is in
+    one_new (client_snapshot v.at w.clock v.item name label)
     (record { image = ap (λ y. y.active) (sym a.at); fresh = client_fresh w p v s.numbers_stand is; unspent = client_unspent w v a })
-    (come_one w v.at v.item _ _ a.among refl) e (client_spent w v name label (found_within p w.volumes v is))
+    (come_one w v.at v.item _ _ a.among refl) e (client_spent w v name label l) (client_number w ev v path name label s a l so)
 
-pub snap_brings : (w : Up) (v : Found Volume) (name : List ℕ) (label : Option (List ℕ)) → SoundUp w → VolumeAt w v → (p : Volume → Bool) → found p w.volumes ≡ Some v →
-    Brings w (replies.Snapped (client_ident v.at v.item)) (with_volume w v.at (snapped v.at w.clock v.item name label))
-unfolding made_by
-snap_brings w v name label s a p is = of_snap w v name label s a p is _ refl
-
-of_answer : (w u : Up) (ev : Event) (t : Told) → SoundUp w → IsAnswer w ev t u → (reply : Reply) → Tells t reply → Brings w reply u
+pub of_answer : (w u : Up) (ev : Event) (t : Told) → SoundUp w → IsAnswer w ev t u → (reply : Reply) → Tells t reply → Brings w (IsGiven ev) reply u
 unfolding made_by
 of_answer w u ev t s (answers.plain p c) reply e = copies (of_change w u ev c) (p reply e).makes_none
-of_answer w u ev t s (answers.snaps v a p is path name label so) reply e = of_snap w v name label s a p is reply (rw e refl)
+of_answer w u ev t s (answers.snaps v a p is path name label so) reply e = of_snap w ev v path name label s a p is so reply (rw e refl)
 
 -- ---- steps
 
@@ -116,14 +139,40 @@ reserved_unspent w k x r a f (by_client c e l h) = omega arith
 reserved_unspent w k x r a f (by_transfer_number number e l h) =
     true≢false (sym (h x.relation x.transfer (relation_stands w k x r) r.transfer a refl) ∙ subst (λ v. has v.snapshots (reserved_leg x) ≡ false) (ap (λ y. y.source) r.is) f)
 
-reserved_spent : (w : Up) (k : ℕ) (x : Running) → SoundUp w → IsRunning w k x → Spent (with_volume w x.relation.source (with_snapshot x.source (prepared_snapshot w x (reserved_leg x)))) (reserved_leg x)
-reserved_spent w k x s r = by_transfer_number x.transfer.number refl (s.crossed.transfers x.relation x.transfer (relation_stands w k x r) r.transfer).given (λ q u m e z f.
-    let same : x.relation.source ≡ q.source = ap (λ i. i.origin) f in
+-- the source has it now
+prepared_there : (w : Up) (k : ℕ) (x : Running) → SoundUp w → IsRunning w k x → (v : ℕ) → x.relation.source ≡ v →
+    has (volume_at (with_volume w x.relation.source (with_snapshot x.source (prepared_snapshot w x (reserved_leg x)))) v).snapshots (reserved_leg x) ≡ true
+prepared_there w k x s r v e =
     let within : x.relation.source < length w.volumes = (s.crossed.relations x.relation (relation_stands w k x r)).source in
     let new : Volume = with_snapshot x.source (prepared_snapshot w x (reserved_leg x)) in
-    subst (λ v. has (volume_at (with_volume w x.relation.source new) v).snapshots (reserved_leg x) ≡ true) same
-    (subst (λ v. has v.snapshots (reserved_leg x) ≡ true) (sym (set_at w.volumes x.relation.source new no_volume within))
-    (has_from_copy new.snapshots (reserved_leg x) (prepared_snapshot w x (reserved_leg x), among_right x.source.snapshots (prepared_snapshot w x (reserved_leg x) ∷ []) _ (inl refl), refl))))
+    subst (λ y. has (volume_at (with_volume w x.relation.source new) y).snapshots (reserved_leg x) ≡ true) e
+    (subst (λ y. has y.snapshots (reserved_leg x) ≡ true) (sym (set_at w.volumes x.relation.source new no_volume within))
+    (has_from_copy new.snapshots (reserved_leg x) (prepared_snapshot w x (reserved_leg x), among_right x.source.snapshots (prepared_snapshot w x (reserved_leg x) ∷ []) _ (inl refl), refl)))
+
+reserved_spent : (w : Up) (k : ℕ) (x : Running) → SoundUp w → IsRunning w k x → Spent (with_volume w x.relation.source (with_snapshot x.source (prepared_snapshot w x (reserved_leg x)))) (reserved_leg x)
+reserved_spent w k x s r = by_transfer_number x.transfer.number refl (s.crossed.transfers x.relation x.transfer (relation_stands w k x r) r.transfer).given
+    (λ q u m e z f. prepared_there w k x s r q.source (ap (λ i. i.origin) f))
+
+reserved_number : (w : Up) (k : ℕ) (x : Running) → SoundUp w → IsRunning w k x →
+    HasNumber (with_volume w x.relation.source (with_snapshot x.source (prepared_snapshot w x (reserved_leg x)))) (prepared_snapshot w x (reserved_leg x)) (Unit {0})
+reserved_number w k x s r =
+    let here : Among w.relations x.relation = relation_stands w k x r in let d = s.crossed.relations x.relation here in let t = s.crossed.transfers x.relation x.transfer here r.transfer in record {
+      stands = λ given. record {
+        origin = rw (length_set w.volumes x.relation.source (with_snapshot x.source (prepared_snapshot w x (reserved_leg x)))) d.source;
+        seq = transfers x.transfer.number (record {
+          seq = refl;
+          given = t.given;
+          maker_counts = d.counts;
+          maker_given = d.given;
+          name = refl;
+          label = refl;
+          while_standing = λ q u m e n. let f = same_relation w.relations q x.relation u x.transfer s.crossed.transfers_differ m here e r.transfer n in
+              (ap (λ y. y.source) (sym f), ap (λ y. y.number) (sym f));
+        });
+      };
+      apart = λ q u m e z lacks i. true≢false (sym (subst (λ j. has (volume_at (with_volume w x.relation.source (with_snapshot x.source (prepared_snapshot w x (reserved_leg x)))) q.source).snapshots j ≡ true) i
+          (prepared_there w k x s r q.source (ap (λ j. j.origin) i))) ∙ lacks);
+    }
 
 of_publish : (w : Up) (k : ℕ) (x : Running) (leg : Snapshot) → SoundUp w → IsRunning w k x → Ahead x leg → AllCome w (with_volume w x.relation.destination (published w x leg))
 of_publish w k x leg s r a = stands_set (ComesFrom w) w x.relation.destination (published w x leg)
@@ -143,7 +192,7 @@ of_publish w k x leg s r a = stands_set (ComesFrom w) w x.relation.destination (
     each t (inr (inr m)) = absurd m
 
 abbrev By : Up → Effect → Type 0
-By w e = Brings w e.reply e.world
+By w e = Brings w (Unit {0}) e.reply e.world
 
 thinned_at : (w : Up) (k : ℕ) (x : Running) (u : Volume) → SoundUp w → IsRunning w k x → Thinned u.snapshots x.destination.snapshots → AllCome w (with_volume w x.relation.destination u)
 thinned_at w k x u s r t = come_thinned w x.relation.destination x.destination u (destination_stands w k x r s.crossed) t
@@ -156,7 +205,7 @@ of_effect w k x kind e s r (due_finish base a f) i = subst (By w) (sym i) (copie
 of_effect w k x kind e s r (due_settle j later a f) i = subst (By w) (sym i) (copies (stays w) refl)
 of_effect w k x kind e s r (due_prepare a f) i = subst (By w) (sym i) (going (By w) w k x _ _ (λ _. copies (stays w) refl)
     (λ _. one_new (prepared_snapshot w x (reserved_leg x)) (record { image = ap (λ y. y.source.active) r.is; fresh = reserved_fresh w k x s r a f; unspent = reserved_unspent w k x r a f })
-    (come_one w x.relation.source x.source (with_snapshot x.source (prepared_snapshot w x (reserved_leg x))) _ (source_stands w k x r s.crossed) refl) refl (reserved_spent w k x s r)))
+    (come_one w x.relation.source x.source (with_snapshot x.source (prepared_snapshot w x (reserved_leg x))) _ (source_stands w k x r s.crossed) refl) refl (reserved_spent w k x s r) (reserved_number w k x s r)))
 of_effect w k x kind e s r (due_prune leg a b) i = subst (By w) (sym i) (going (By w) w k x _ _ (λ _. copies (stays w) refl)
     (λ _. copies (thinned_at w k x (without (goes w x) x.destination) s r (filter_thins _ x.destination.snapshots)) refl))
 of_effect w k x kind e s r (due_publish leg a b c) i = subst (By w) (sym i) (going (By w) w k x _ _ (λ _. copies (stays w) refl) (λ _. copies (of_publish w k x leg s r a) refl))
@@ -173,9 +222,13 @@ step_brings w e s (by_transfer k x kind r d i) = of_effect w k x kind e s r (kin
 step_brings w e s (by_tidy n d i) = subst (By w) (sym i)
     (copies (come_thinned w n (volume_at w n) (without (is_tidied w n) (volume_at w n)) (among_get_or w.volumes n no_volume (tidy_within w n d)) (filter_thins _ (volume_at w n).snapshots)) refl)
 
-pub deed_brings : (e : Event) (d : Deed) → SoundUp d.old → IsDeed e d → Brings d.old d.reply d.new
+any_given : {w u : Up} {reply : Reply} {Given : Type 0} → Brings w (Unit {0}) reply u → Brings w Given reply u
+any_given (copies h e) = copies h e
+any_given (one_new f n h e z b) = one_new f n h e z (record { stands = λ _. b.stands tt; apart = b.apart })
+
+pub deed_brings : (e : Event) (d : Deed) → SoundUp d.old → IsDeed e d → Brings d.old (IsGiven e) d.reply d.new
 deed_brings e d s i = go (deed_cases e d i)
   where
-    go : IsStepDeed d ⊎ IsAnswered e d → Brings d.old d.reply d.new
-    go (inl t) = step_brings d.old _ s t
+    go : IsStepDeed d ⊎ IsAnswered e d → Brings d.old (IsGiven e) d.reply d.new
+    go (inl t) = any_given (step_brings d.old _ s t)
     go (inr a) = of_answer d.old d.new e a.tells s a.is d.reply a.reply

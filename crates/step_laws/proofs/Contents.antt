@@ -22,7 +22,7 @@ use Rattle.step_laws.proofs.Copies.{stays}
 use Rattle.step_laws.proofs.Brings.{Brings, copies, deed_brings}
 use Rattle.step_laws.proofs.Along.{Along, Progress, brought_progress, along_deed, along_opened, along_start, made_unknown}
 
-deed_goes : (e : Event) (d : Deed) → IsDeed e d → Goes d.old d.new
+pub deed_goes : (e : Event) (d : Deed) → IsDeed e d → Goes d.old d.new
 deed_goes e d i = go (deed_cases e d i)
   where
     go : IsStepDeed d ⊎ IsAnswered e d → Goes d.old d.new
@@ -32,7 +32,7 @@ deed_goes e d i = go (deed_cases e d i)
 deed_progress : (e : Event) (d : Deed) → SoundUp d.old → IsDeed e d → Progress d
 deed_progress e d s i = brought_progress d (deed_brings e d s i) (deed_goes e d i) (reserved_stays d.old d.new s (deeds_keep e d i))
 
-restart_brings : (w : Up) → Brings (restart_deed w).old (restart_deed w).reply (restart_deed w).new
+restart_brings : (w : Up) → Brings (restart_deed w).old (Unit {0}) (restart_deed w).reply (restart_deed w).new
 unfolding made_by
 restart_brings w = copies (stays w) refl
 

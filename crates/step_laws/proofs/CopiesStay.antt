@@ -1,5 +1,5 @@
 -- Tags fit and copies agree after each answer, each step and each restart.
-use Rattle.std.proofs.Common.{◌≡◌, Some, Ok, subst}
+use Rattle.std.proofs.Common.{refl, ◌≡◌, Some, Ok, subst}
 use Rattle.sm_model.specs.declared.event.Event.{Event}
 use Rattle.sm_model.specs.declared.reply.Reply.{Reply}
 use Rattle.sm_defs.specs.Words.{Among}
@@ -27,13 +27,13 @@ use Rattle.step_laws.proofs.TagsStay as tags
 pub answers_keep_tags : (w : Up) (e : Event) (reached : Reached) → SoundUp w → answer w e ≡ Some (Ok reached) → TagsFit reached.world
 answers_keep_tags w e reached s i = tags.of_answer w reached.world e reached.reply s (from_answer (Is w e) (answer w e) reached (of_answer w e) i)
 
-pub brought_agree : (w u : Up) (reply : Reply) → CopiesAgree w → Brings w reply u → CopiesAgree u
+pub brought_agree : {Given : Type 0} (w u : Up) (reply : Reply) → CopiesAgree w → Brings w Given reply u → CopiesAgree u
 brought_agree w u reply k (copies h e) = copies_come w u h k
-brought_agree w u reply k (one_new f n h e z) = copies_fresh w u f h n.fresh k
+brought_agree w u reply k (one_new f n h e z b) = copies_fresh w u f h n.fresh k
 
 answered_agree : (w u : Up) (ev : Event) (t : Told) → SoundUp w → IsAnswer w ev t u → CopiesAgree u
 answered_agree w u ev t s (answers.plain p c) = copies_come w u (brings.of_change w u ev c) s.copies_agree
-answered_agree w u ev t s (answers.snaps v a p is path name label so) = brought_agree w u _ s.copies_agree (brings.snap_brings w v name label s a p is)
+answered_agree w u ev t s (answers.snaps v a p is path name label so) = brought_agree w u _ s.copies_agree (brings.of_answer w u ev _ s (answers.snaps v a p is path name label so) _ refl)
 
 pub answers_keep_copies : (w : Up) (e : Event) (reached : Reached) → SoundUp w → answer w e ≡ Some (Ok reached) → CopiesAgree reached.world
 answers_keep_copies w e reached s i = answered_agree w reached.world e reached.reply s (from_answer (Is w e) (answer w e) reached (of_answer w e) i)

@@ -83,7 +83,8 @@ pub goes_pushed : (w : Up) (v : Volume) → Goes w (record w { volumes = w.volum
 goes_pushed w v = record {
   count = longer w.volumes;
   next = λ i l. rw (push_within w.volumes v no_volume i l) (omega arith);
-  next_transfer = omega arith; next_relation = omega arith;
+  next_transfer = omega arith;
+  next_relation = omega arith;
   transfers = stays_from w;
 }
   where
@@ -120,13 +121,15 @@ of_change w u ev (answers.changes r a q f) = goes_relation w r.at q (follows_fro
 of_change w u ev (answers.halves r a q f) = record {
   count = omega arith;
   next = λ v l. omega arith;
-  next_transfer = omega arith; next_relation = omega arith;
+  next_transfer = omega arith;
+  next_relation = omega arith;
   transfers = λ p t m e. (goes_relation w r.at q (follows_from w r.item q a.among f)).transfers p t (among_filter has_a_half _ p m).0 e;
 }
 of_change w u ev (answers.starts r a q f) = record {
   count = omega arith;
   next = λ v l. omega arith;
-  next_transfer = omega arith; next_relation = omega arith;
+  next_transfer = omega arith;
+  next_relation = omega arith;
   transfers = (goes_relation w r.at q (starts_from w r.item q f)).transfers;
 }
 
@@ -180,7 +183,8 @@ pub of_opened : (w : Up) → Goes w (opened w)
 of_opened w = record {
   count = length_mapped reopened w.volumes;
   next = λ v l. rw (mapped_at reopened w.volumes no_volume v l) (omega arith);
-  next_transfer = omega arith; next_relation = omega arith;
+  next_transfer = omega arith;
+  next_relation = omega arith;
   transfers = λ r t m e. let (q, n, f) = from_map rejoined w.relations r m in
       subst (λ y. FromOld w y t) (sym f) (restarted_from w q t q.transfer n refl (ap (λ y. y.transfer) (sym f) ∙ e));
 }

@@ -33,3 +33,6 @@ pub mod HasStep
 pub mod Shipping
 pub mod Idling
 pub mod Ending
+pub mod Numbered
+pub mod TransferNumbers
+pub mod NumbersStay

@@ -26,9 +26,9 @@ makes_one d i j e = ap (λ o. is_ident o i) e
 was_there : (w : Up) (s : Snapshot) → ComesFrom w s → WasThere w s
 was_there w s c = (c.volume, c.snapshot, c.stands, c.copy)
 
-pub brought_traced : (d : Deed) → Brings d.old d.reply d.new → IsTraced d
+pub brought_traced : {Given : Type 0} (d : Deed) → Brings d.old Given d.reply d.new → IsTraced d
 brought_traced d (copies h e) v s m = inl (was_there d.old s (h v s m), makes_none d s.ident e)
-brought_traced d (one_new f n h e z) v s m = go (h v s m)
+brought_traced d (one_new f n h e z b) v s m = go (h v s m)
   where
     go : ComesFrom d.old s ⊎ (s ≡ f) → (WasThere d.old s × (makes s.ident d ≡ false)) ⊎ WasTaken d s
     go (inl c) = inl (was_there d.old s c, makes_one d s.ident f.ident e ∙ false_from_ne_true (same_ident f.ident s.ident) (λ k. n.fresh c.volume c.snapshot c.stands (sym c.copy.ident ∙ sym (same_is f.ident s.ident k))))

@@ -3,3 +3,4 @@ pub mod Needs
 pub mod Copies
 pub mod Contents
 pub mod Idling
+pub mod Numbers

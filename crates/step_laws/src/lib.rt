@@ -9,6 +9,7 @@ ghost use Rattle.step_laws.specs.Needs.{AnswersKeepTheNeeded, StepsKeepTheNeeded
 ghost use Rattle.step_laws.specs.Copies.{AnswersKeepTags, StepsKeepTags, DeedsKeepTags, RestartsKeepTags, AnswersKeepCopies, StepsKeepCopies, DeedsKeepCopies, RestartsKeepCopies};
 ghost use Rattle.step_laws.specs.Contents.{DeedsAreTraced, ContentsAreTheOrigins, IdentitiesAreMadeOnce};
 ghost use Rattle.step_laws.specs.Idling.{DeedsKeepEnds, RestartsKeepEnds, RunningTransfersHaveSteps, IdleIsExact};
+ghost use Rattle.step_laws.specs.Numbers.{DeedsKeepNumbers, RestartsKeepNumbers};
 
 /// Opening a world that was just opened changes nothing.
 pub fn opening_again_changes_nothing()
@@ -138,4 +139,14 @@ pub fn running_transfers_have_steps()
 /// In a sound world the program finds no step exactly where none is due.
 pub fn idle_is_exact()
     ensures { IdleIsExact }
+{}
+
+/// Each deed that begins in a sound world and can be asked for leaves identities of numbers that were given.
+pub fn deeds_keep_numbers()
+    ensures { DeedsKeepNumbers }
+{}
+
+/// So does a restart of a sound world.
+pub fn restarts_keep_numbers()
+    ensures { RestartsKeepNumbers }
 {}
