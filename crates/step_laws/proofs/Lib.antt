@@ -1,6 +1,9 @@
 pub mod Walk
 pub mod Members
 pub mod Changes
+pub mod Plainly
+pub mod OfVolumeEvents
+pub mod OfRelationEvents
 pub mod OfAnswer
 pub mod Deeds
 pub mod Opening

@@ -1,0 +1,86 @@
+-- What answers to events on volumes, policies and the clock change.
+use Rattle.std.proofs.Common.{◌≡◌, ◌≢◌, ◌⊎◌, ℕ, List, [], ◌∷◌, Bool, true, false, cond, Option, Some, None, Ok, refl, sym, ap, subst, ◌∙◌, inl, inr}
+use Rattle.std.proofs.lemmas.Option.{same_Some}
+use Rattle.std.specs.Str.{bytes_eq}
+use Rattle.std.proofs.Common.{Result}
+use Rattle.sm_base.specs.declared.numbers.Ident.{Ident}
+use Rattle.sm_base.specs.declared.numbers.DiskNo.{DiskNo}
+use Rattle.sm_base.specs.declared.numbers.Kind.{Kind}
+use Rattle.sm_base.specs.declared.refusal.Refusal.{Refusal}
+use Rattle.sm_base.specs.declared.refusal.Refusal.TheVariants as refusals
+use Rattle.sm_base.specs.declared.numbers.PolicyKind.{PolicyKind}
+use Rattle.sm_base.specs.declared.numbers.TransferKind.{TransferKind}
+use Rattle.sm_base.specs.declared.numbers.TransferKind.TheVariants.{Initialize, Update, Resync}
+use Rattle.sm_model.specs.declared.event.Event.{Event}
+use Rattle.sm_model.specs.declared.event.Event.TheVariants as events
+use Rattle.sm_model.specs.declared.reply.Reply.{Reply}
+use Rattle.sm_model.specs.declared.reply.Reply.TheVariants as replies
+use Rattle.sm_defs.specs.Words.{Found, found, or_else}
+use Rattle.sm_model.specs.declared.reply.Line.{Line}
+use Rattle.sm_defs.specs.Volume.{Volume, Snapshot, no_volume, has}
+use Rattle.sm_defs.specs.Relationship.{Relationship, Transfer}
+use Rattle.sm_defs.specs.Legs.{Legs}
+use Rattle.sm_defs.specs.Edges.{is_empty}
+use Rattle.sm_defs.specs.World.{Up, no_relation}
+use Rattle.sm_model.specs.Answers.{Answer, Reached, bytes, some_or, told, volume_named}
+use Rattle.sm_model.specs.Origin.{made_by}
+use Rattle.sm_model.specs.OfVolumes as volumes
+use Rattle.sm_model.specs.OfPolicies as policies
+use Rattle.sm_model.specs.OfRelations as relations
+use Rattle.sm_model.specs.OfTransfers as transfers
+use Rattle.sm_model.specs.OfReport as reports
+use Rattle.sm_model.specs.Answer.{answer}
+use Rattle.step_laws.proofs.Walk.{OfOk, past, with_found, with_ok, with_held, with_target, whether_so, now}
+use Rattle.step_laws.proofs.Members.{found_among, found_at}
+use Rattle.step_laws.proofs.Changes.{VolumeAt, RelationAt, IsPlain, PlainTold, Follows, Starts, IsChange, Is, elsewhere, creates, writes, drops, points, breaks, relates, changes, halves, starts, plain, snaps}
+use Rattle.step_laws.proofs.Plainly.{volume_at_place, relation_at_place, done_is_plain, plain_told, bytes_told, by_told, by_done, same}
+
+-- ---- volumes
+
+pub create_volume : (w : Up) (ev : Event) (path : List ℕ) (disk : DiskNo) (kind : Kind) (l p : ℕ) → OfOk (Is w ev) (volumes.create_volume w path disk kind l p)
+unfolding made_by
+create_volume w ev path disk kind l p = past _ _ _ _ (λ _. past _ _ _ _ (λ _. with_found _ _ _ _ (λ len _. past _ _ _ _ (λ _. past _ _ _ _ (λ _. past _ _ _ _ (λ _.
+    by_told w _ ev _ (record { makes_none = refl; accepted = λ r e. cc }) (creates path disk.0 kind _ l p)))))))
+
+pub write : (w : Up) (ev : Event) (path : List ℕ) (block fill : ℕ) → OfOk (Is w ev) (volumes.write w path block fill)
+write w ev path block fill = with_found _ _ _ _ (λ v is. past _ _ _ _ (λ _. past _ _ _ _ (λ _. past _ _ _ _ (λ _. by_done w _ ev (writes v (volume_at_place w _ v is) block fill)))))
+
+pub snap : (w : Up) (ev : Event) (path name : List ℕ) (label : Option (List ℕ)) → ev ≡ events.Snap path name label → OfOk (Is w ev) (volumes.snap w path name label)
+snap w ev path name label so = with_found _ _ _ _ (λ v is. past _ _ _ _ (λ _. past _ _ _ _ (λ _. past _ _ _ _ (λ _. now (Is w ev) _ (snaps v (volume_at_place w _ v is) _ is path name label so)))))
+
+pub held_none : (o : Option Relationship) → volumes.held o ≡ Ok tt → o ≡ None
+unfolding volumes.held
+held_none None e = refl
+held_none (Some r) e = absurd (cc)
+
+pub named_go : (w : Up) (path : List ℕ) (v : Found Volume) (o : Option (Found Volume)) → found (λ v. bytes_eq v.path path) w.volumes ≡ o → some_or (refusals.NoVolume path) o ≡ Ok v → VolumeAt w v
+unfolding some_or
+named_go w path v None f e = absurd (cc)
+named_go w path v (Some x) f e = subst (VolumeAt w) (same_ok x v e) (volume_at_place w _ x f)
+  where
+    same_ok : (y x : Found Volume) → ◌≡◌ {A = Result (Found Volume) Refusal} (Ok y) (Ok x) → y ≡ x
+    same_ok y x e = cc
+
+pub named_at_place : (w : Up) (path : List ℕ) (v : Found Volume) → volume_named w path ≡ Ok v → VolumeAt w v
+named_at_place w path v e = named_go w path v _ refl e
+
+pub unsnap : (w : Up) (ev : Event) (path name : List ℕ) → ev ≡ events.Unsnap path name → OfOk (Is w ev) (volumes.unsnap w path name)
+unsnap w ev path name so = with_ok _ _ _ (λ v is. with_ok _ _ _ (λ s named. past _ _ _ _ (λ _. with_held _ _ _ (λ free.
+    by_done w _ ev (drops path name so v is (named_at_place w path v is) s named (held_none _ free))))))
+
+pub cp : (w : Up) (ev : Event) (path : List ℕ) → OfOk (Is w ev) (volumes.cp w path)
+cp w ev path = with_found _ _ _ _ (λ v is. past _ _ _ _ (λ _. by_done w _ ev (points v (volume_at_place w _ v is))))
+
+pub read : (w : Up) (ev : Event) (path : List ℕ) (name : Option (List ℕ)) (block : ℕ) → OfOk (Is w ev) (volumes.read w path name block)
+read w ev path name block = with_found _ _ _ _ (λ v _. with_ok _ _ _ (λ i _. past _ _ _ _ (λ _. now (Is w ev) _ (plain (bytes_told _) (same w ev)))))
+
+-- ---- policies and the clock
+
+pub create_policy : (w : Up) (ev : Event) (name : List ℕ) (kind : PolicyKind) → OfOk (Is w ev) (policies.create_policy w name kind)
+create_policy w ev name kind = past _ _ _ _ (λ _. past _ _ _ _ (λ _. by_done w _ ev (elsewhere _ refl refl refl refl)))
+
+pub add_rule : (w : Up) (ev : Event) (name label : List ℕ) (keep : ℕ) (preserve : Bool) → OfOk (Is w ev) (policies.add_rule w name label keep preserve)
+add_rule w ev name label keep preserve = with_found _ _ _ _ (λ p _. past _ _ _ _ (λ _. past _ _ _ _ (λ _. past _ _ _ _ (λ _. past _ _ _ _ (λ _. by_done w _ ev (elsewhere _ refl refl refl refl))))))
+
+pub set_clock : (w : Up) (ev : Event) (time : ℕ) → OfOk (Is w ev) (policies.set_clock w time)
+set_clock w ev time = past _ _ _ _ (λ _. by_done w _ ev (elsewhere _ refl refl refl refl))

@@ -1,0 +1,61 @@
+-- What was found stands at its place, and plain replies.
+use Rattle.std.proofs.Common.{◌≡◌, ◌≢◌, ◌⊎◌, ℕ, List, [], ◌∷◌, Bool, true, false, cond, Option, Some, None, Ok, refl, sym, ap, subst, ◌∙◌, inl, inr}
+use Rattle.std.proofs.lemmas.Option.{same_Some}
+use Rattle.std.specs.Str.{bytes_eq}
+use Rattle.std.proofs.Common.{Result}
+use Rattle.sm_base.specs.declared.numbers.Ident.{Ident}
+use Rattle.sm_base.specs.declared.numbers.DiskNo.{DiskNo}
+use Rattle.sm_base.specs.declared.numbers.Kind.{Kind}
+use Rattle.sm_base.specs.declared.refusal.Refusal.{Refusal}
+use Rattle.sm_base.specs.declared.refusal.Refusal.TheVariants as refusals
+use Rattle.sm_base.specs.declared.numbers.PolicyKind.{PolicyKind}
+use Rattle.sm_base.specs.declared.numbers.TransferKind.{TransferKind}
+use Rattle.sm_base.specs.declared.numbers.TransferKind.TheVariants.{Initialize, Update, Resync}
+use Rattle.sm_model.specs.declared.event.Event.{Event}
+use Rattle.sm_model.specs.declared.event.Event.TheVariants as events
+use Rattle.sm_model.specs.declared.reply.Reply.{Reply}
+use Rattle.sm_model.specs.declared.reply.Reply.TheVariants as replies
+use Rattle.sm_defs.specs.Words.{Found, found, or_else}
+use Rattle.sm_model.specs.declared.reply.Line.{Line}
+use Rattle.sm_defs.specs.Volume.{Volume, Snapshot, no_volume, has}
+use Rattle.sm_defs.specs.Relationship.{Relationship, Transfer}
+use Rattle.sm_defs.specs.Legs.{Legs}
+use Rattle.sm_defs.specs.Edges.{is_empty}
+use Rattle.sm_defs.specs.World.{Up, no_relation}
+use Rattle.sm_model.specs.Answers.{Answer, Reached, bytes, some_or, told, volume_named}
+use Rattle.sm_model.specs.Origin.{made_by}
+use Rattle.sm_model.specs.OfVolumes as volumes
+use Rattle.sm_model.specs.OfPolicies as policies
+use Rattle.sm_model.specs.OfRelations as relations
+use Rattle.sm_model.specs.OfTransfers as transfers
+use Rattle.sm_model.specs.OfReport as reports
+use Rattle.sm_model.specs.Answer.{answer}
+use Rattle.step_laws.proofs.Walk.{OfOk, past, with_found, with_ok, with_held, with_target, whether_so, now}
+use Rattle.step_laws.proofs.Members.{found_among, found_at}
+use Rattle.step_laws.proofs.Changes.{VolumeAt, RelationAt, IsPlain, PlainTold, Follows, Starts, IsChange, Is, elsewhere, creates, writes, drops, points, breaks, relates, changes, halves, starts, plain, snaps}
+
+pub volume_at_place : (w : Up) (p : Volume → Bool) (v : Found Volume) → found p w.volumes ≡ Some v → VolumeAt w v
+volume_at_place w p v e = record { among = found_among p w.volumes v e; at = found_at p w.volumes v no_volume e }
+
+pub relation_at_place : (w : Up) (p : Relationship → Bool) (r : Found Relationship) → found p w.relations ≡ Some r → RelationAt w r
+relation_at_place w p r e = record { among = found_among p w.relations r e; at = found_at p w.relations r no_relation e }
+
+pub done_is_plain : IsPlain replies.Done
+unfolding made_by
+done_is_plain = record { makes_none = refl; accepted = λ r e. cc }
+
+pub plain_told : (reply : Reply) → IsPlain reply → PlainTold (told reply)
+plain_told reply p other e = subst IsPlain (sym e) p
+
+pub bytes_told : (bs : List ℕ) → PlainTold (bytes bs)
+unfolding made_by
+bytes_told bs reply (b, e, f) = subst IsPlain (sym e) (record { makes_none = refl; accepted = λ r g. cc })
+
+pub by_told : (w u : Up) (ev : Event) (reply : Reply) → IsPlain reply → IsChange w ev u → OfOk (Is w ev) (Ok (record { reply = told reply; world = u }))
+by_told w u ev reply p c = now (Is w ev) _ (plain (plain_told reply p) c)
+
+pub by_done : (w u : Up) (ev : Event) → IsChange w ev u → OfOk (Is w ev) (Ok (record { reply = told replies.Done; world = u }))
+by_done w u ev c = by_told w u ev replies.Done done_is_plain c
+
+pub same : (w : Up) (ev : Event) → IsChange w ev w
+same w ev = elsewhere w refl refl refl refl
