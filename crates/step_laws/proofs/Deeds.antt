@@ -32,7 +32,7 @@ from_answer P (Some a) reached h e = from_ok P a reached h (same a reached e)
     same : (a : Answer) (x : Reached) → ◌≡◌ {A = Option Answer} (Some a) (Some (Ok x)) → a ≡ Ok x
     same a x e = cc
 
-of_done : (e : Event) (o : Option Answer) (d : Deed) → OfAnswer (Is d.old e) o → IsDone o d → IsAnswered e d
+pub of_done : (e : Event) (o : Option Answer) (d : Deed) → OfAnswer (Is d.old e) o → IsDone o d → IsAnswered e d
 unfolding OfAnswer OfOk
 of_done e None d h i = absurd i
 of_done e (Some (Ok x)) d h (t, f) = record { tells = x.reply; reply = t; is = subst (IsAnswer d.old e x.reply) (sym f) h }

@@ -39,3 +39,7 @@ pub mod Ending
 pub mod Numbered
 pub mod TransferNumbers
 pub mod NumbersStay
+pub mod Leaving
+pub mod DropsOfEvents
+pub mod DropsOfSteps
+pub mod Dropping

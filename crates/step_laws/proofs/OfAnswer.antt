@@ -1,41 +1,19 @@
 -- What each answer that is no refusal is: one case for each way to change the world.
-use Rattle.std.proofs.Common.{◌≡◌, ◌≢◌, ◌⊎◌, ℕ, List, [], ◌∷◌, Bool, true, false, cond, Option, Some, None, Ok, refl, sym, ap, subst, ◌∙◌, inl, inr}
-use Rattle.std.proofs.lemmas.Option.{same_Some}
-use Rattle.std.specs.Str.{bytes_eq}
-use Rattle.std.proofs.Common.{Result}
-use Rattle.sm_base.specs.declared.numbers.Ident.{Ident}
-use Rattle.sm_base.specs.declared.numbers.DiskNo.{DiskNo}
-use Rattle.sm_base.specs.declared.numbers.Kind.{Kind}
-use Rattle.sm_base.specs.declared.refusal.Refusal.{Refusal}
-use Rattle.sm_base.specs.declared.refusal.Refusal.TheVariants as refusals
-use Rattle.sm_base.specs.declared.numbers.PolicyKind.{PolicyKind}
-use Rattle.sm_base.specs.declared.numbers.TransferKind.{TransferKind}
-use Rattle.sm_base.specs.declared.numbers.TransferKind.TheVariants.{Initialize, Update, Resync}
+use Rattle.std.proofs.Common.{ℕ, List, true, false, Option, Some, None, Ok, refl}
 use Rattle.sm_model.specs.declared.event.Event.{Event}
 use Rattle.sm_model.specs.declared.event.Event.TheVariants as events
-use Rattle.sm_model.specs.declared.reply.Reply.{Reply}
 use Rattle.sm_model.specs.declared.reply.Reply.TheVariants as replies
-use Rattle.sm_defs.specs.Words.{Found, found, or_else}
 use Rattle.sm_model.specs.declared.reply.Line.{Line}
-use Rattle.sm_defs.specs.Volume.{Volume, Snapshot, no_volume, has}
-use Rattle.sm_defs.specs.Relationship.{Relationship, Transfer}
-use Rattle.sm_defs.specs.Legs.{Legs}
-use Rattle.sm_defs.specs.Edges.{is_empty}
-use Rattle.sm_defs.specs.World.{Up, no_relation}
-use Rattle.sm_model.specs.Answers.{Answer, Reached, bytes, some_or, told, volume_named}
+use Rattle.sm_defs.specs.World.{Up}
+use Rattle.sm_model.specs.Answers.{Answer, Reached, told}
 use Rattle.sm_model.specs.Origin.{made_by}
-use Rattle.sm_model.specs.OfVolumes as volumes
-use Rattle.sm_model.specs.OfPolicies as policies
-use Rattle.sm_model.specs.OfRelations as relations
-use Rattle.sm_model.specs.OfTransfers as transfers
 use Rattle.sm_model.specs.OfReport as reports
 use Rattle.sm_model.specs.Answer.{answer}
-use Rattle.step_laws.proofs.Walk.{OfOk, past, with_found, with_ok, with_held, with_target, whether_so, now}
-use Rattle.step_laws.proofs.Members.{found_among, found_at}
-use Rattle.step_laws.proofs.Changes.{VolumeAt, RelationAt, IsPlain, PlainTold, Follows, Starts, IsChange, Is, elsewhere, creates, writes, drops, points, breaks, relates, changes, halves, starts, plain, snaps}
-use Rattle.step_laws.proofs.Plainly.{volume_at_place, relation_at_place, done_is_plain, plain_told, bytes_told, by_told, by_done, same}
-use Rattle.step_laws.proofs.OfVolumeEvents.{create_volume, write, snap, held_none, named_go, named_at_place, unsnap, cp, read, create_policy, add_rule, set_clock}
-use Rattle.step_laws.proofs.OfRelationEvents.{relate, same_transfer, set_quiesced, break_off, delete, either, released_at, release, resumed_follows, filled, started, start_it, start, initialize, update, settled_follows, settled_transfer, ended_follows, halted_follows, abort, resync}
+use Rattle.step_laws.proofs.Walk.{OfOk, with_found}
+use Rattle.step_laws.proofs.Changes.{Is}
+use Rattle.step_laws.proofs.Plainly.{by_told, same}
+use Rattle.step_laws.proofs.OfVolumeEvents.{create_volume, write, snap, unsnap, cp, read, create_policy, add_rule, set_clock}
+use Rattle.step_laws.proofs.OfRelationEvents.{relate, set_quiesced, break_off, delete, release, initialize, update, abort, resync}
 
 table : (w : Up) (ev : Event) (ls : List Line) → OfOk (Is w ev) (Ok (record { reply = told (replies.Table ls); world = w }))
 unfolding made_by

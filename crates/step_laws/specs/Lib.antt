@@ -4,3 +4,4 @@ pub mod Copies
 pub mod Contents
 pub mod Idling
 pub mod Numbers
+pub mod Dropping

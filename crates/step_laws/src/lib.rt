@@ -10,6 +10,7 @@ ghost use Rattle.step_laws.specs.Copies.{AnswersKeepTags, StepsKeepTags, DeedsKe
 ghost use Rattle.step_laws.specs.Contents.{DeedsAreTraced, ContentsAreTheOrigins, IdentitiesAreMadeOnce};
 ghost use Rattle.step_laws.specs.Idling.{DeedsKeepEnds, RestartsKeepEnds, RunningTransfersHaveSteps, IdleIsExact};
 ghost use Rattle.step_laws.specs.Numbers.{DeedsKeepNumbers, RestartsKeepNumbers};
+ghost use Rattle.step_laws.specs.Dropping.{DropsAreNamed};
 
 /// Opening a world that was just opened changes nothing.
 pub fn opening_again_changes_nothing()
@@ -149,4 +150,9 @@ pub fn deeds_keep_numbers()
 /// So does a restart of a sound world.
 pub fn restarts_keep_numbers()
     ensures { RestartsKeepNumbers }
+{}
+
+/// A deed that begins in a sound world drops exactly the snapshots that the rules name for it.
+pub fn drops_are_named()
+    ensures { DropsAreNamed }
 {}
