@@ -43,3 +43,4 @@ pub mod Leaving
 pub mod DropsOfEvents
 pub mod DropsOfSteps
 pub mod Dropping
+pub mod Runs

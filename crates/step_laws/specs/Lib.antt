@@ -5,3 +5,4 @@ pub mod Contents
 pub mod Idling
 pub mod Numbers
 pub mod Dropping
+pub mod Runs

@@ -11,6 +11,7 @@ ghost use Rattle.step_laws.specs.Contents.{DeedsAreTraced, ContentsAreTheOrigins
 ghost use Rattle.step_laws.specs.Idling.{DeedsKeepEnds, RestartsKeepEnds, RunningTransfersHaveSteps, IdleIsExact};
 ghost use Rattle.step_laws.specs.Numbers.{DeedsKeepNumbers, RestartsKeepNumbers};
 ghost use Rattle.step_laws.specs.Dropping.{DropsAreNamed};
+ghost use Rattle.step_laws.specs.Runs.{RunsDoDeeds, RunsKeepTheNeeded, RunsDropWhatIsNamed};
 
 /// Opening a world that was just opened changes nothing.
 pub fn opening_again_changes_nothing()
@@ -155,4 +156,19 @@ pub fn restarts_keep_numbers()
 /// A deed that begins in a sound world drops exactly the snapshots that the rules name for it.
 pub fn drops_are_named()
     ensures { DropsAreNamed }
+{}
+
+/// Each deed of a run is an answer, a step, or a restart that changed nothing.
+pub fn runs_do_deeds()
+    ensures { RunsDoDeeds }
+{}
+
+/// No deed of a run drops a snapshot that some relationship needs.
+pub fn runs_keep_the_needed()
+    ensures { RunsKeepTheNeeded }
+{}
+
+/// Each deed of a run that begins in a sound world drops exactly the snapshots that the rules name for it.
+pub fn runs_drop_what_is_named()
+    ensures { RunsDropWhatIsNamed }
 {}
