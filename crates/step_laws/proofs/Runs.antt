@@ -1,5 +1,5 @@
 -- Each deed of a run was done.
-use Rattle.std.proofs.Common.{◌≡◌, ◌↔◌, ◌⊎◌, ℕ, List, [], ◌∷◌, ◌++◌, refl, sym, subst, inl, inr, true≢false, ◌∙◌}
+use Rattle.std.proofs.Common.{◌↔◌, ◌⊎◌, ℕ, List, [], ◌∷◌, refl, sym, subst, inl, inr, true≢false, ◌∙◌}
 use Rattle.sm_base.specs.declared.numbers.Ident.{Ident}
 use Rattle.sm_base.specs.declared.numbers.Side.{Side}
 use Rattle.sm_model.specs.declared.event.Event.TheVariants as events
