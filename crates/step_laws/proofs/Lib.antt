@@ -43,3 +43,7 @@ pub mod Leaving
 pub mod DropsOfEvents
 pub mod DropsOfSteps
 pub mod Dropping
+<<<<<<< HEAD
+=======
+pub mod Runs
+>>>>>>> f43f21f0cf914d1b766d01ebaf97d52707beed24
