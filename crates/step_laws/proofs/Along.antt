@@ -15,7 +15,7 @@ use Rattle.transfer_laws.proofs.Lists.{same_is}
 use Rattle.step_laws.specs.Contents.{WasThere, WasTaken, IsTraced, HasOrigin, AllHaveOrigins}
 use Rattle.step_laws.proofs.Members.{find_none}
 use Rattle.step_laws.proofs.Parties.{snapshot_is, lacked}
-use Rattle.step_laws.proofs.Goes.{Goes}
+use Rattle.step_laws.proofs.Growing.{Grown}
 use Rattle.step_laws.proofs.Spent.{Spent, KeepsReserved, spent_stays, spent_opened, standing_spent}
 use Rattle.step_laws.proofs.Brings.{Brings, copies, one_new}
 use Rattle.step_laws.proofs.Traced.{makes_none, makes_one, brought_traced}
@@ -66,7 +66,7 @@ pub record Progress (d : Deed) : Type 0 where
   pub anew : (i : Ident) → Spent d.old i → makes i d ≡ false
   pub given : (i : Ident) → makes i d ≡ true → Spent d.new i
 
-pub brought_progress : {Given : Type 0} (d : Deed) → Brings d.old Given d.reply d.new → Goes d.old d.new → KeepsReserved d.old d.new → Progress d
+pub brought_progress : {Given : Type 0} (d : Deed) → Brings d.old Given d.reply d.new → Grown d.old d.new → KeepsReserved d.old d.new → Progress d
 brought_progress {Given} d b g k = record { traced = brought_traced d b; stays = λ i s. spent_stays d.old d.new i g k s; anew = anew b; given = given b }
   where
     anew : Brings d.old Given d.reply d.new → (i : Ident) → Spent d.old i → makes i d ≡ false

@@ -14,30 +14,30 @@ use Rattle.sm_model.specs.LegalRun.{IsDeed, IsStepDeed, Fits, Run, restart_deed}
 use Rattle.sm_model.specs.Sound.{SoundUp}
 use Rattle.step_laws.specs.Contents.{BeginSound, OriginsHold}
 use Rattle.step_laws.proofs.Deeds.{IsAnswered, deed_cases}
-use Rattle.step_laws.proofs.Goes as goes
-use Rattle.step_laws.proofs.Goes.{Goes}
+use Rattle.step_laws.proofs.Growing as growing
+use Rattle.step_laws.proofs.Growing.{Grown}
 use Rattle.step_laws.proofs.NeedsStay.{deeds_keep}
 use Rattle.step_laws.proofs.Spent.{reserved_stays}
 use Rattle.step_laws.proofs.Copies.{stays}
 use Rattle.step_laws.proofs.Brings.{Brings, copies, deed_brings}
 use Rattle.step_laws.proofs.Along.{Along, Progress, brought_progress, along_deed, along_opened, along_start, made_unknown}
 
-pub deed_goes : (e : Event) (d : Deed) → IsDeed e d → Goes d.old d.new
-deed_goes e d i = go (deed_cases e d i)
+pub deed_grown : (e : Event) (d : Deed) → IsDeed e d → Grown d.old d.new
+deed_grown e d i = go (deed_cases e d i)
   where
-    go : IsStepDeed d ⊎ IsAnswered e d → Goes d.old d.new
-    go (inl s) = goes.of_step d.old _ s
-    go (inr a) = goes.of_answer d.old d.new e a.tells a.is
+    go : IsStepDeed d ⊎ IsAnswered e d → Grown d.old d.new
+    go (inl s) = growing.of_step d.old _ s
+    go (inr a) = growing.of_answer d.old d.new e a.tells a.is
 
 deed_progress : (e : Event) (d : Deed) → SoundUp d.old → IsDeed e d → Progress d
-deed_progress e d s i = brought_progress d (deed_brings e d s i) (deed_goes e d i) (reserved_stays d.old d.new s (deeds_keep e d i))
+deed_progress e d s i = brought_progress d (deed_brings e d s i) (deed_grown e d i) (reserved_stays d.old d.new s (deeds_keep e d i))
 
 restart_brings : (w : Up) → Brings (restart_deed w).old (Unit {0}) (restart_deed w).reply (restart_deed w).new
 unfolding made_by
 restart_brings w = copies (stays w) refl
 
 restart_progress : (w : Up) → Progress (restart_deed w)
-restart_progress w = brought_progress (restart_deed w) (restart_brings w) (goes.goes_same w) (λ r t m e z k. k)
+restart_progress w = brought_progress (restart_deed w) (restart_brings w) (growing.grown_same w) (λ r t m e z k. k)
 
 -- up, or down with a deed that would go on from a sound world
 abbrev Ready : Up → List Deed → World → Type 0
@@ -49,7 +49,7 @@ abbrev MadeOnce : Up → List Deed → List Deed → Type 0
 MadeOnce start before [] = Unit {0}
 MadeOnce start before (d ∷ ds) = ((i : Ident) → makes i d ≡ true → origin start before i ≡ None) × MadeOnce start (before ++ d ∷ []) ds
 
-record Goes_on (start : Up) (before ds : List Deed) (new : World) : Type 0 where
+record LeadsOn (start : Up) (before ds : List Deed) (new : World) : Type 0 where
   ready : Ready start (before ++ ds) new
   once : MadeOnce start before ds
 
@@ -57,13 +57,13 @@ append_none : {X : Type 0} (xs : List X) → xs ++ [] ≡ xs
 append_none [] = refl
 append_none (x ∷ xs) = ap (λ ys. x ∷ ys) (append_none xs)
 
-no_deed : (start : Up) (before : List Deed) (new : World) → Ready start before new → Goes_on start before [] new
+no_deed : (start : Up) (before : List Deed) (new : World) → Ready start before new → LeadsOn start before [] new
 no_deed start before new r = record { ready = subst (λ ds. Ready start ds new) (sym (append_none before)) r; once = tt }
 
-one_deed : (start : Up) (before : List Deed) (d : Deed) → Along start before d.old → Progress d → Goes_on start before (d ∷ []) (up d.new)
+one_deed : (start : Up) (before : List Deed) (d : Deed) → Along start before d.old → Progress d → LeadsOn start before (d ∷ []) (up d.new)
 one_deed start before d a p = record { ready = along_deed start before d a p; once = (λ i m. made_unknown start before d i a p m, tt) }
 
-of_entry : (start : Up) (before : List Deed) {old new : World} {e : Entry} {sides left : List Side} {ds : List Deed} → Fits old e sides ds new left → Ready start before old → BeginSound ds → Goes_on start before ds new
+of_entry : (start : Up) (before : List Deed) {old new : World} {e : Entry} {sides left : List Side} {ds : List Deed} → Fits old e sides ds new left → Ready start before old → BeginSound ds → LeadsOn start before ds new
 of_entry start before (runs.done {e = e} d o a b c i) r h = one_deed start before d (subst (Along start before) (sym o) r) (deed_progress e.event d h.0 i)
 of_entry start before (runs.quiet i) r h = no_deed start before _ r
 of_entry start before (runs.failed {e = e} d disk count o a b i c g) r h = no_deed start before (down disk.0 d) (subst (Along start before) (sym o) r, λ s. deed_progress e.event d s i)
@@ -83,13 +83,13 @@ once_joined : (start : Up) (before ds es : List Deed) → MadeOnce start before 
 once_joined start before [] es h k = subst (λ xs. MadeOnce start xs es) (append_none before) k
 once_joined start before (d ∷ ds) es h k = (h.0, once_joined start (before ++ d ∷ []) ds es h.1 (subst (λ xs. MadeOnce start xs es) (sym (append_assoc before (d ∷ []) ds)) k))
 
-of_run : (start : Up) (before : List Deed) (old new : World) (es : List Entry) (sides : List Side) (ds : List Deed) → Run old es sides ds new → Ready start before old → BeginSound ds → Goes_on start before ds new
-of_run start before old new [] sides ds (a, b, c) r h = subst (λ xs. Goes_on start before xs new) (sym b) (subst (Goes_on start before []) (sym c) (no_deed start before old r))
+of_run : (start : Up) (before : List Deed) (old new : World) (es : List Entry) (sides : List Side) (ds : List Deed) → Run old es sides ds new → Ready start before old → BeginSound ds → LeadsOn start before ds new
+of_run start before old new [] sides ds (a, b, c) r h = subst (λ xs. LeadsOn start before xs new) (sym b) (subst (LeadsOn start before []) (sym c) (no_deed start before old r))
 of_run start before old new (e ∷ es) sides ds (first, later, left, mid, asked, f, k, q) r h =
     let parts = each_left (λ d. SoundUp d.old) first later (subst BeginSound q h) in
     let one = of_entry start before f r parts.0 in
     let rest = of_run start (before ++ first) mid new es left later k one.ready parts.1 in
-    subst (λ xs. Goes_on start before xs new) (sym q) (record {
+    subst (λ xs. LeadsOn start before xs new) (sym q) (record {
       ready = subst (λ xs. Ready start xs new) (append_assoc before first later) rest.ready;
       once = once_joined start before first later one.once rest.once;
     })

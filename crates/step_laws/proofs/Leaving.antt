@@ -46,17 +46,17 @@ same_member key (z ∷ zs) x y d (inl i) (inr n) e = absurd (among_each (λ q. �
 same_member key (z ∷ zs) x y d (inr m) (inl j) e = absurd (among_each (λ q. ¬ (key q ≡ key z)) zs x d.0 m (e ∙ ap key j))
 same_member key (z ∷ zs) x y d (inr m) (inr n) e = same_member key zs x y d.1 m n e
 
-abbrev pub Goes : (Snapshot → Bool) → List Snapshot → Ident → Type 0
-Goes goes ss i = (s : Snapshot) × (snapshot_of ss (Some i) ≡ Some s) × (goes s ≡ true)
+abbrev pub IsToGo : (Snapshot → Bool) → List Snapshot → Ident → Type 0
+IsToGo goes ss i = (s : Snapshot) × (snapshot_of ss (Some i) ≡ Some s) × (goes s ≡ true)
 
-pub without_lost : (goes : Snapshot → Bool) (v : Volume) (i : Ident) → has v.snapshots i ≡ true → has (without goes v).snapshots i ≡ false → Goes goes v.snapshots i
+pub without_lost : (goes : Snapshot → Bool) (v : Volume) (i : Ident) → has v.snapshots i ≡ true → has (without goes v).snapshots i ≡ false → IsToGo goes v.snapshots i
 without_lost goes v i h k = let (s, e) = found_one v.snapshots i h in (s, e, go s (snapshot_is v.snapshots i s e) (cases_Bool (goes s)))
   where
     go : (s : Snapshot) → Among v.snapshots s × (s.ident ≡ i) → (goes s ≡ true) ⊎ (goes s ≡ false) → goes s ≡ true
     go s m (inl g) = g
     go s m (inr g) = absurd (true≢false (sym (has_from_copy (without goes v).snapshots i (s, filter_among (λ t. not (goes t)) v.snapshots s m.0 (not_from_false _ g), m.1)) ∙ k))
 
-pub goes_lost : (goes : Snapshot → Bool) (v : Volume) (i : Ident) → KeysDiffer ident_of v.snapshots → Goes goes v.snapshots i → (has v.snapshots i ≡ true) × (has (without goes v).snapshots i ≡ false)
+pub goes_lost : (goes : Snapshot → Bool) (v : Volume) (i : Ident) → KeysDiffer ident_of v.snapshots → IsToGo goes v.snapshots i → (has v.snapshots i ≡ true) × (has (without goes v).snapshots i ≡ false)
 goes_lost goes v i d (s, e, g) = let m = snapshot_is v.snapshots i s e in (
   has_from_copy v.snapshots i (s, m.0, m.1),
   false_from_ne_true _ (λ h.

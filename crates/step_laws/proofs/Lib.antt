@@ -27,7 +27,7 @@ pub mod StepTags
 pub mod TagsStay
 pub mod CopiesStay
 pub mod NeededHere
-pub mod Goes
+pub mod Growing
 pub mod Spent
 pub mod Traced
 pub mod Along
@@ -43,7 +43,4 @@ pub mod Leaving
 pub mod DropsOfEvents
 pub mod DropsOfSteps
 pub mod Dropping
-<<<<<<< HEAD
-=======
 pub mod Runs
->>>>>>> f43f21f0cf914d1b766d01ebaf97d52707beed24

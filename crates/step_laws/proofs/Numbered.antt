@@ -12,13 +12,13 @@ use Rattle.sm_model.specs.InRange.{is_made_name}
 use Rattle.sm_model.specs.Steps.{made_name}
 use Rattle.sm_model.specs.NumbersStand.{NumbersStand, NumberStands, IsNumbered, IsClients, IsTransfers, clients, transfers}
 use Rattle.transfer_laws.proofs.Lists.{copy_from_has, has_from_copy}
-use Rattle.step_laws.proofs.Goes.{FromOld, new_one, old_one, Goes}
+use Rattle.step_laws.proofs.Growing.{FromOld, new_one, old_one, Grown}
 use Rattle.step_laws.proofs.Spent.{KeepsReserved}
 use Rattle.step_laws.proofs.Copies.{ComesFrom, AllCome}
 
 -- ---- a copy of a snapshot that stood
 
-clients_stay : (old new : Up) (s t : Snapshot) (c : ℕ) → IsCopy s t → t.ident.origin < length old.volumes → Goes old new → IsClients old t c → IsClients new s c
+clients_stay : (old new : Up) (s t : Snapshot) (c : ℕ) → IsCopy s t → t.ident.origin < length old.volumes → Grown old new → IsClients old t c → IsClients new s c
 clients_stay old new s t c i l g k = record {
   seq = ap (λ j. j.seq) i.ident ∙ k.seq;
   counts = k.counts;
@@ -27,7 +27,7 @@ clients_stay old new s t c i l g k = record {
   name = ap is_made_name i.name ∙ k.name;
 }
 
-transfers_stay : (old new : Up) (s t : Snapshot) (number : ℕ) → IsCopy s t → Goes old new → IsTransfers old t number → IsTransfers new s number
+transfers_stay : (old new : Up) (s t : Snapshot) (number : ℕ) → IsCopy s t → Grown old new → IsTransfers old t number → IsTransfers new s number
 transfers_stay old new s t number i g k = record {
   seq = ap (λ j. j.seq) i.ident ∙ k.seq;
   given = let a = k.given in let b = g.next_transfer in omega arith;
@@ -42,7 +42,7 @@ transfers_stay old new s t number i g k = record {
     go r u n (new_one h) = absurd (let a = k.given in omega arith)
     go r u n (old_one q v m e a b c d) = let z = k.while_standing q v m e (sym a ∙ n) in (ap (λ j. j.origin) i.ident ∙ (z.0 ∙ sym c), i.maker ∙ (z.1 ∙ sym d))
 
-number_stays : (old new : Up) (s t : Snapshot) → IsCopy s t → Goes old new → NumberStands old t → NumberStands new s
+number_stays : (old new : Up) (s t : Snapshot) → IsCopy s t → Grown old new → NumberStands old t → NumberStands new s
 number_stays old new s t i g k = record { origin = rw i.ident (let a = k.origin in let b = g.count in omega arith); seq = go k.seq }
   where
     go : IsNumbered old t → IsNumbered new s
@@ -67,7 +67,7 @@ too_new old s v number k h e = go k.seq
     go (transfers n x) = let a = x.seq in let b = x.given in omega (arith, seq, a, b)
 
 -- where an old snapshot would have the identity, the source would have it still
-copied_apart : (old new : Up) → NumbersStand old → Goes old new → KeepsReserved old new → (v : Volume) (s : Snapshot) → Stands old v s → Apart new s
+copied_apart : (old new : Up) → NumbersStand old → Grown old new → KeepsReserved old new → (v : Volume) (s : Snapshot) → Stands old v s → Apart new s
 copied_apart old new k g keeps v s m r t n e z lacks same = go (g.transfers r t n e)
   where
     go : FromOld old r t → ⊥
@@ -94,7 +94,7 @@ unmade_stays new h r t m e z lacks v n = false_from_ne_true (has v.snapshots (ma
 abbrev OfNew : Up → Snapshot → Type 0
 OfNew new s = NumberStands new s × Apart new s
 
-copied : (old new : Up) → NumbersStand old → Goes old new → KeepsReserved old new → (s : Snapshot) → ComesFrom old s → OfNew new s
+copied : (old new : Up) → NumbersStand old → Grown old new → KeepsReserved old new → (s : Snapshot) → ComesFrom old s → OfNew new s
 copied old new k g keeps s c = (
   number_stays old new s c.snapshot c.copy g (k.snapshots c.volume c.snapshot c.stands),
   apart_copied new s c.snapshot c.copy.ident (copied_apart old new k g keeps c.volume c.snapshot c.stands),
@@ -103,10 +103,10 @@ copied old new k g keeps s c = (
 numbers_from : (new : Up) → ((v : Volume) (s : Snapshot) → Stands new v s → OfNew new s) → NumbersStand new
 numbers_from new h = record { snapshots = λ v s m. (h v s m).0; unmade = unmade_stays new (λ v s m. (h v s m).1) }
 
-pub numbers_come : (old new : Up) → NumbersStand old → Goes old new → KeepsReserved old new → AllCome old new → NumbersStand new
+pub numbers_come : (old new : Up) → NumbersStand old → Grown old new → KeepsReserved old new → AllCome old new → NumbersStand new
 numbers_come old new k g keeps h = numbers_from new (λ v s m. copied old new k g keeps s (h v s m))
 
-pub numbers_new : (old new : Up) (f : Snapshot) → NumbersStand old → Goes old new → KeepsReserved old new → ((v : Volume) (s : Snapshot) → Stands new v s → ComesFrom old s ⊎ (s ≡ f)) →
+pub numbers_new : (old new : Up) (f : Snapshot) → NumbersStand old → Grown old new → KeepsReserved old new → ((v : Volume) (s : Snapshot) → Stands new v s → ComesFrom old s ⊎ (s ≡ f)) →
     NumberStands new f → Apart new f → NumbersStand new
 numbers_new old new f k g keeps h n a = numbers_from new (λ v s m. go s (h v s m))
   where

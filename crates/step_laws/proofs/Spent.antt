@@ -14,7 +14,7 @@ use Rattle.transfer_laws.proofs.Lists.{among_right}
 use Rattle.step_laws.specs.Needs.{KeepsNeeded}
 use Rattle.step_laws.proofs.Parties.{lacked}
 use Rattle.step_laws.proofs.NeededHere.{leg_at_source}
-use Rattle.step_laws.proofs.Goes.{FromOld, new_one, old_one, Goes, of_opened}
+use Rattle.step_laws.proofs.Growing.{FromOld, new_one, old_one, Grown, of_opened}
 use Rattle.step_laws.proofs.NeedsStay.{restarts_keep}
 
 -- A client's number below the next one; or a transfer's, which the source of the transfer has where it stands.
@@ -31,7 +31,7 @@ KeepsReserved old new = (r : Relationship) (t : Transfer) → Among old.relation
 seq_of_made : (i : Ident) (v n : ℕ) → i ≡ made_ident v n → i.seq ≡ 2 * n + 1
 seq_of_made i v n e = ap (λ j. j.seq) e
 
-pub spent_stays : (old new : Up) (i : Ident) → Goes old new → KeepsReserved old new → Spent old i → Spent new i
+pub spent_stays : (old new : Up) (i : Ident) → Grown old new → KeepsReserved old new → Spent old i → Spent new i
 spent_stays old new i g k (by_client c e l n) = by_client c e (let h = g.count in omega arith) (let h = g.next i.origin l in omega arith)
 spent_stays old new i g k (by_transfer number e l h) = by_transfer number e (let n = g.next_transfer in omega arith) (λ r t m f z s. go r t z s (g.transfers r t m f))
   where

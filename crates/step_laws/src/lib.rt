@@ -11,10 +11,7 @@ ghost use Rattle.step_laws.specs.Contents.{DeedsAreTraced, ContentsAreTheOrigins
 ghost use Rattle.step_laws.specs.Idling.{DeedsKeepEnds, RestartsKeepEnds, RunningTransfersHaveSteps, IdleIsExact};
 ghost use Rattle.step_laws.specs.Numbers.{DeedsKeepNumbers, RestartsKeepNumbers};
 ghost use Rattle.step_laws.specs.Dropping.{DropsAreNamed};
-<<<<<<< HEAD
-=======
 ghost use Rattle.step_laws.specs.Runs.{RunsDoDeeds, RunsKeepTheNeeded, RunsDropWhatIsNamed};
->>>>>>> f43f21f0cf914d1b766d01ebaf97d52707beed24
 
 /// Opening a world that was just opened changes nothing.
 pub fn opening_again_changes_nothing()
@@ -160,8 +157,6 @@ pub fn restarts_keep_numbers()
 pub fn drops_are_named()
     ensures { DropsAreNamed }
 {}
-<<<<<<< HEAD
-=======
 
 /// Each deed of a run is an answer, a step, or a restart that changed nothing.
 pub fn runs_do_deeds()
@@ -177,4 +172,3 @@ pub fn runs_keep_the_needed()
 pub fn runs_drop_what_is_named()
     ensures { RunsDropWhatIsNamed }
 {}
->>>>>>> f43f21f0cf914d1b766d01ebaf97d52707beed24

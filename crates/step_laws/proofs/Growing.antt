@@ -29,7 +29,7 @@ pub data FromOld (old : Up) (r : Relationship) (t : Transfer) : Type 0 where
   new_one : old.next_transfer ≤ t.number → FromOld old r t
   old_one : (q : Relationship) (u : Transfer) → Among old.relations q → q.transfer ≡ Some u → t.number ≡ u.number → t.reserved ≡ u.reserved → r.source ≡ q.source → r.number ≡ q.number → FromOld old r t
 
-pub record Goes (old new : Up) : Type 0 where
+pub record Grown (old new : Up) : Type 0 where
   pub count : length old.volumes ≤ length new.volumes
   pub next : (v : ℕ) → v < length old.volumes → (volume_at old v).next ≤ (volume_at new v).next
   pub next_transfer : old.next_transfer ≤ new.next_transfer
@@ -39,25 +39,25 @@ pub record Goes (old new : Up) : Type 0 where
 stays_from : (w : Up) → EachTransfer (FromOld w) w
 stays_from w r t m e = old_one r t m e refl refl refl refl
 
-pub goes_same : (w : Up) → Goes w w
-goes_same w = record { count = omega arith; next = λ v h. omega arith; next_transfer = omega arith; next_relation = omega arith; transfers = stays_from w }
+pub grown_same : (w : Up) → Grown w w
+grown_same w = record { count = omega arith; next = λ v h. omega arith; next_transfer = omega arith; next_relation = omega arith; transfers = stays_from w }
 
 -- one volume is changed, and its number does not go back
-pub goes_volume : (w : Up) (k : ℕ) (u : Volume) → (volume_at w k).next ≤ u.next → Goes w (with_volume w k u)
-goes_volume w k u h = record { count = let e = length_set w.volumes k u in omega arith; next = λ v l. go v (set_cases w.volumes k v u no_volume); next_transfer = omega arith; next_relation = omega arith; transfers = stays_from w }
+pub grown_volume : (w : Up) (k : ℕ) (u : Volume) → (volume_at w k).next ≤ u.next → Grown w (with_volume w k u)
+grown_volume w k u h = record { count = let e = length_set w.volumes k u in omega arith; next = λ v l. go v (set_cases w.volumes k v u no_volume); next_transfer = omega arith; next_relation = omega arith; transfers = stays_from w }
   where
     go : (v : ℕ) → (volume_at (with_volume w k u) v ≡ volume_at w v) ⊎ ((v ≡ k) × (volume_at (with_volume w k u) v ≡ u)) → (volume_at w v).next ≤ (volume_at (with_volume w k u) v).next
     go v (inl e) = rw e (omega arith)
     go v (inr (e, f)) = rw (f, e) h
 
-pub goes_relation : (w : Up) (k : ℕ) (q : Relationship) → ((t : Transfer) → q.transfer ≡ Some t → FromOld w q t) → Goes w (with_relation w k q)
-goes_relation w k q h = record { count = omega arith; next = λ v l. omega arith; next_transfer = omega arith; next_relation = omega arith; transfers = λ r t m e. go r t e (among_set w.relations k q r m) }
+pub grown_relation : (w : Up) (k : ℕ) (q : Relationship) → ((t : Transfer) → q.transfer ≡ Some t → FromOld w q t) → Grown w (with_relation w k q)
+grown_relation w k q h = record { count = omega arith; next = λ v l. omega arith; next_transfer = omega arith; next_relation = omega arith; transfers = λ r t m e. go r t e (among_set w.relations k q r m) }
   where
     go : (r : Relationship) (t : Transfer) → r.transfer ≡ Some t → (r ≡ q) ⊎ Among w.relations r → FromOld w r t
     go r t e (inl f) = subst (λ y. FromOld w y t) (sym f) (h t (ap (λ y. y.transfer) (sym f) ∙ e))
     go r t e (inr m) = stays_from w r t m e
 
-from_trans : (old mid : Up) (r : Relationship) (t : Transfer) → Goes old mid → FromOld mid r t → FromOld old r t
+from_trans : (old mid : Up) (r : Relationship) (t : Transfer) → Grown old mid → FromOld mid r t → FromOld old r t
 from_trans old mid r t g (new_one h) = new_one (let k = g.next_transfer in omega arith)
 from_trans old mid r t g (old_one q u m e a b c d) = go (g.transfers q u m e)
   where
@@ -65,8 +65,8 @@ from_trans old mid r t g (old_one q u m e a b c d) = go (g.transfers q u m e)
     go (new_one h) = new_one (rw a h)
     go (old_one p v n f i j l o) = old_one p v n f (a ∙ i) (b ∙ j) (c ∙ l) (d ∙ o)
 
-pub goes_trans : (old mid new : Up) → Goes old mid → Goes mid new → Goes old new
-goes_trans old mid new g h = record {
+pub grown_trans : (old mid new : Up) → Grown old mid → Grown mid new → Grown old new
+grown_trans old mid new g h = record {
   count = let a = g.count in let b = h.count in omega arith;
   next = λ v l. let c = g.count in let a = g.next v l in let b = h.next v (omega arith) in omega arith;
   next_transfer = let a = g.next_transfer in let b = h.next_transfer in omega arith;
@@ -79,8 +79,8 @@ goes_trans old mid new g h = record {
 follows_from : (w : Up) (r q : Relationship) → Among w.relations r → Follows r q → (t : Transfer) → q.transfer ≡ Some t → FromOld w q t
 follows_from w r q m f t e = let (u, g, a, b) = f.transfer t e in old_one r u m g a b f.source f.number
 
-pub goes_pushed : (w : Up) (v : Volume) → Goes w (record w { volumes = w.volumes ++ v ∷ [] })
-goes_pushed w v = record {
+pub grown_pushed : (w : Up) (v : Volume) → Grown w (record w { volumes = w.volumes ++ v ∷ [] })
+grown_pushed w v = record {
   count = longer w.volumes;
   next = λ i l. rw (push_within w.volumes v no_volume i l) (omega arith);
   next_transfer = omega arith;
@@ -92,8 +92,8 @@ goes_pushed w v = record {
     longer [] = omega arith
     longer (u ∷ us) = let h = longer us in omega arith
 
-goes_related : (w : Up) (n s d p : ℕ) → (r : Relationship) (t : Transfer) → Among (w.relations ++ new_relation n s d p ∷ []) r → r.transfer ≡ Some t → FromOld w r t
-goes_related w n s d p r t m e = go (among_append w.relations (new_relation n s d p ∷ []) r m)
+grown_related : (w : Up) (n s d p : ℕ) → (r : Relationship) (t : Transfer) → Among (w.relations ++ new_relation n s d p ∷ []) r → r.transfer ≡ Some t → FromOld w r t
+grown_related w n s d p r t m e = go (among_append w.relations (new_relation n s d p ∷ []) r m)
   where
     go : Among w.relations r ⊎ Among (new_relation n s d p ∷ []) r → FromOld w r t
     go (inl k) = stays_from w r t k e
@@ -103,7 +103,7 @@ goes_related w n s d p r t m e = go (among_append w.relations (new_relation n s 
 starts_from : (w : Up) (r q : Relationship) → Starts w r q → (t : Transfer) → q.transfer ≡ Some t → FromOld w q t
 starts_from w r q f t e = new_one (let n = f.transfer t e in omega arith)
 
-pub of_change : (w u : Up) (ev : Event) → IsChange w ev u → Goes w u
+pub of_change : (w u : Up) (ev : Event) → IsChange w ev u → Grown w u
 of_change w u ev (answers.elsewhere other e f g j) = record {
   count = rw e (omega arith);
   next = λ v l. subst (λ vs. (volume_at w v).next ≤ (slice_index_or vs v no_volume).next) (sym e) (omega arith);
@@ -111,63 +111,63 @@ of_change w u ev (answers.elsewhere other e f g j) = record {
   next_relation = rw j (omega arith);
   transfers = λ r t m i. stays_from w r t (subst (λ rs. Among rs r) f m) i;
 }
-of_change w u ev (answers.creates path disk kind number logical physical) = goes_pushed w _
-of_change w u ev (answers.writes v a block fill) = goes_volume w v.at _ (rw a.at (omega arith))
-of_change w u ev (answers.drops path name so v is a s named free) = goes_volume w v.at _ (rw a.at (omega arith))
-of_change w u ev (answers.points v a) = goes_volume w v.at _ (rw a.at (omega arith))
-of_change w u ev (answers.breaks v a) = goes_volume w v.at _ (rw a.at (omega arith))
-of_change w u ev (answers.relates s d p) = record { count = omega arith; next = λ v l. omega arith; next_transfer = omega arith; next_relation = omega arith; transfers = goes_related w w.next_relation s d p }
-of_change w u ev (answers.changes r a q f) = goes_relation w r.at q (follows_from w r.item q a.among f)
+of_change w u ev (answers.creates path disk kind number logical physical) = grown_pushed w _
+of_change w u ev (answers.writes v a block fill) = grown_volume w v.at _ (rw a.at (omega arith))
+of_change w u ev (answers.drops path name so v is a s named free) = grown_volume w v.at _ (rw a.at (omega arith))
+of_change w u ev (answers.points v a) = grown_volume w v.at _ (rw a.at (omega arith))
+of_change w u ev (answers.breaks v a) = grown_volume w v.at _ (rw a.at (omega arith))
+of_change w u ev (answers.relates s d p) = record { count = omega arith; next = λ v l. omega arith; next_transfer = omega arith; next_relation = omega arith; transfers = grown_related w w.next_relation s d p }
+of_change w u ev (answers.changes r a q f) = grown_relation w r.at q (follows_from w r.item q a.among f)
 of_change w u ev (answers.halves r a q f) = record {
   count = omega arith;
   next = λ v l. omega arith;
   next_transfer = omega arith;
   next_relation = omega arith;
-  transfers = λ p t m e. (goes_relation w r.at q (follows_from w r.item q a.among f)).transfers p t (among_filter has_a_half _ p m).0 e;
+  transfers = λ p t m e. (grown_relation w r.at q (follows_from w r.item q a.among f)).transfers p t (among_filter has_a_half _ p m).0 e;
 }
 of_change w u ev (answers.starts r a q f) = record {
   count = omega arith;
   next = λ v l. omega arith;
   next_transfer = omega arith;
   next_relation = omega arith;
-  transfers = (goes_relation w r.at q (starts_from w r.item q f)).transfers;
+  transfers = (grown_relation w r.at q (starts_from w r.item q f)).transfers;
 }
 
-pub of_answer : (w u : Up) (ev : Event) (t : Told) → IsAnswer w ev t u → Goes w u
+pub of_answer : (w u : Up) (ev : Event) (t : Told) → IsAnswer w ev t u → Grown w u
 of_answer w u ev t (answers.plain p c) = of_change w u ev c
-of_answer w u ev t (answers.snaps v a p is path name label so) = goes_volume w v.at _ (rw a.at (omega arith))
+of_answer w u ev t (answers.snaps v a p is path name label so) = grown_volume w v.at _ (rw a.at (omega arith))
 
 -- ---- steps
 
 -- the relationship has x's transfer with its number and mark
-progress : (w : Up) (k : ℕ) (x : Running) (t : Transfer) → Among w.relations x.relation → x.relation.transfer ≡ Some x.transfer → t.number ≡ x.transfer.number → t.reserved ≡ x.transfer.reserved → Goes w (with_relation w k (with_transfer x.relation t))
-progress w k x t m e a b = goes_relation w k (with_transfer x.relation t) (λ u f. old_one x.relation x.transfer m e (ap (λ y. y.number) (sym (same_Some t u f)) ∙ a) (ap (λ y. y.reserved) (sym (same_Some t u f)) ∙ b) refl refl)
+progress : (w : Up) (k : ℕ) (x : Running) (t : Transfer) → Among w.relations x.relation → x.relation.transfer ≡ Some x.transfer → t.number ≡ x.transfer.number → t.reserved ≡ x.transfer.reserved → Grown w (with_relation w k (with_transfer x.relation t))
+progress w k x t m e a b = grown_relation w k (with_transfer x.relation t) (λ u f. old_one x.relation x.transfer m e (ap (λ y. y.number) (sym (same_Some t u f)) ∙ a) (ap (λ y. y.reserved) (sym (same_Some t u f)) ∙ b) refl refl)
 
-settles : (w : Up) (k : ℕ) (x : Running) (i : Ident) (later : List Ident) → Among w.relations x.relation → x.relation.transfer ≡ Some x.transfer → Goes w (with_relation w k (settled_relation x i later))
-settles w k x i [] m e = goes_relation w k _ (λ u f. absurd (cc))
-settles w k x i (j ∷ is) m e = goes_relation w k _ (λ u f. old_one x.relation x.transfer m e (ap (λ y. y.number) (sym (same_Some _ u f))) (ap (λ y. y.reserved) (sym (same_Some _ u f))) refl refl)
+settles : (w : Up) (k : ℕ) (x : Running) (i : Ident) (later : List Ident) → Among w.relations x.relation → x.relation.transfer ≡ Some x.transfer → Grown w (with_relation w k (settled_relation x i later))
+settles w k x i [] m e = grown_relation w k _ (λ u f. absurd (cc))
+settles w k x i (j ∷ is) m e = grown_relation w k _ (λ u f. old_one x.relation x.transfer m e (ap (λ y. y.number) (sym (same_Some _ u f))) (ap (λ y. y.reserved) (sym (same_Some _ u f))) refl refl)
 
-destination_goes : (w : Up) (k : ℕ) (x : Running) (u : Volume) → IsRunning w k x → u.next ≡ x.destination.next → Goes w (with_destination w x u)
-destination_goes w k x u r e = goes_volume w x.relation.destination u (rw (e, ap (λ y. y.destination.next) r.is) (omega arith))
+destination_grown : (w : Up) (k : ℕ) (x : Running) (u : Volume) → IsRunning w k x → u.next ≡ x.destination.next → Grown w (with_destination w x u)
+destination_grown w k x u r e = grown_volume w x.relation.destination u (rw (e, ap (λ y. y.destination.next) r.is) (omega arith))
 
 abbrev By : Up → Effect → Type 0
-By w e = Goes w e.world
+By w e = Grown w e.world
 
 of_effect : (w : Up) (k : ℕ) (x : Running) (kind : StepKind) (e : Effect) → IsRunning w k x → Among w.relations x.relation → IsEffect w k x kind e → By w e
-of_effect w k x (revert base) e r m i = subst (By w) (sym i) (going (By w) w k x _ _ (λ _. progress w k x _ m r.transfer refl refl) (λ _. destination_goes w k x _ r refl))
-of_effect w k x (finish base) e r m i = subst (By w) (sym i) (goes_relation w k _ (λ u f. absurd (cc)))
+of_effect w k x (revert base) e r m i = subst (By w) (sym i) (going (By w) w k x _ _ (λ _. progress w k x _ m r.transfer refl refl) (λ _. destination_grown w k x _ r refl))
+of_effect w k x (finish base) e r m i = subst (By w) (sym i) (grown_relation w k _ (λ u f. absurd (cc)))
 of_effect w k x (settle j later) e r m i = subst (By w) (sym i) (settles w k x j later m r.transfer)
 of_effect w k x (prepare j) e r m i = subst (By w) (sym i) (going (By w) w k x _ _ (λ _. progress w k x _ m r.transfer refl refl)
-    (λ _. goes_volume w x.relation.source _ (rw (ap (λ y. y.source.next) r.is) (omega arith))))
+    (λ _. grown_volume w x.relation.source _ (rw (ap (λ y. y.source.next) r.is) (omega arith))))
 of_effect w k x prune e r m i = subst (By w) (sym i) (going (By w) w k x _ _ (λ _. progress w k x _ m r.transfer refl refl)
-    (λ _. goes_trans w _ _ (destination_goes w k x _ r refl) (progress (with_destination w x _) k x _ m r.transfer refl refl)))
-of_effect w k x (publish leg) e r m i = subst (By w) (sym i) (going (By w) w k x _ _ (λ _. progress w k x _ m r.transfer refl refl) (λ _. destination_goes w k x _ r refl))
+    (λ _. grown_trans w _ _ (destination_grown w k x _ r refl) (progress (with_destination w x _) k x _ m r.transfer refl refl)))
+of_effect w k x (publish leg) e r m i = subst (By w) (sym i) (going (By w) w k x _ _ (λ _. progress w k x _ m r.transfer refl refl) (λ _. destination_grown w k x _ r refl))
 of_effect w k x checkpoint e r m i = subst (By w) (sym i) (progress w k x _ m r.transfer refl refl)
 of_effect w k x (ship leg) e r m (n, l, i) = subst (By w) (sym i) (going (By w) w k x _ _ (λ _. progress w k x _ m r.transfer refl refl) (λ _. progress w k x _ m r.transfer refl refl))
 
-pub of_step : (w : Up) (e : Effect) → IsStep w e → Goes w e.world
+pub of_step : (w : Up) (e : Effect) → IsStep w e → Grown w e.world
 of_step w e (by_transfer k x kind r d i) = of_effect w k x kind e r (relation_stands w k x r) i
-of_step w e (by_tidy n d i) = subst (By w) (sym i) (goes_volume w n _ (omega arith))
+of_step w e (by_tidy n d i) = subst (By w) (sym i) (grown_volume w n _ (omega arith))
 
 -- ---- restarts
 
@@ -179,7 +179,7 @@ length_mapped : {X : Type 0} (f : X → X) (xs : List X) → length xs ≤ lengt
 length_mapped f [] = omega arith
 length_mapped f (x ∷ xs) = let h = length_mapped f xs in omega arith
 
-pub of_opened : (w : Up) → Goes w (opened w)
+pub of_opened : (w : Up) → Grown w (opened w)
 of_opened w = record {
   count = length_mapped reopened w.volumes;
   next = λ v l. rw (mapped_at reopened w.volumes no_volume v l) (omega arith);
