@@ -21,6 +21,8 @@ pub record TransferStands (v : Volume) (r : Relationship) (t : Transfer) : Type 
   pub writable : v.kind ≡ Rw → (t.kind ≡ Resync) × (t.checkpoint ≡ 0) × (t.landed ≡ []) × ((i : Ident) → Among t.legs i → has v.snapshots i ≡ false)
   pub resync : t.kind ≡ Resync → r.base ≢ None
   pub ahead : (i : Ident) → Among (later t.legs) i → has v.snapshots i ≡ false
+  -- else it could not be settled, since nothing would be the base
+  pub ends : r.base ≡ None → t.legs ≢ []
   pub first_time : r.base ≡ None → (s : Snapshot) → Among v.snapshots s → IsFirst t.legs s.ident
 
 abbrev pub TransfersStand : Up → Type 0

@@ -11,7 +11,7 @@ use Rattle.sm_model.specs.LegalRun.{IsDeed}
 use Rattle.sm_model.specs.Opened.{opened}
 use Rattle.sm_model.specs.Sound.{SoundUp}
 
--- A transfer without a base has a leg: else it could not be settled, since nothing is its base.
+-- A transfer without a base has a leg, which a sound world has of it.
 abbrev pub EndsAtBase : Up → Type 0
 EndsAtBase w = EachTransfer (λ r t. r.base ≡ None → t.legs ≢ []) w
 
@@ -23,8 +23,8 @@ abbrev pub RestartsKeepEnds : Type 0
 RestartsKeepEnds = (w : Up) → EndsAtBase w → EndsAtBase (opened w)
 
 abbrev pub RunningTransfersHaveSteps : Type 0
-RunningTransfersHaveSteps = (w : Up) (k : ℕ) (x : Running) → SoundUp w → EndsAtBase w → IsRunning w k x → (kind : StepKind) × (kind_due x ≡ Some kind)
+RunningTransfersHaveSteps = (w : Up) (k : ℕ) (x : Running) → SoundUp w → IsRunning w k x → (kind : StepKind) × (kind_due x ≡ Some kind)
 
 -- the program finds no step for an actor exactly where there is none for anybody
 abbrev pub IdleIsExact : Type 0
-IdleIsExact = (w : Up) (a : ℕ) → SoundUp w → EndsAtBase w → (chosen w a ≡ None) ↔ IsIdle w
+IdleIsExact = (w : Up) (a : ℕ) → SoundUp w → (chosen w a ≡ None) ↔ IsIdle w

@@ -2,4 +2,4 @@ use Rattle.step_laws.proofs.Idling.{idle_is_exact}
 use Rattle.step_laws.proofs.idle_is_exact.Goals as goal
 
 pub returns : goal.returns
-returns c = idle_is_exact
+returns c w a s = idle_is_exact w a s (λ r t m e. (s.transfers_stand r t m e).ends)
