@@ -1,5 +1,5 @@
 -- What the start of a transfer is answered, by its tests.
-use Rattle.std.proofs.Common.{◌≡◌, ℕ, suc, ◌==◌, true, false, List, length, Some, Result, Ok, Err, refl, sym, ap, ◌∙◌}
+use Rattle.std.proofs.Common.{◌≡◌, ℕ, ◌==◌, true, false, List, length, Some, Result, Ok, Err, refl, sym, ap, ◌∙◌}
 use Rattle.sm_base.specs.declared.numbers.Ident.{Ident}
 use Rattle.sm_base.specs.declared.numbers.TransferKind.{TransferKind}
 use Rattle.sm_base.specs.declared.numbers.TransferKind.TheVariants.{Resync}

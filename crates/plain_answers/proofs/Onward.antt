@@ -1,5 +1,5 @@
 -- Where all tests of an event are passed.
-use Rattle.std.proofs.Common.{◌≡◌, ℕ, ◌<◌, ◌&&◌, Bool, true, false, not, List, Option, Some, None, Result, Ok, Err, is_some, IfOk, refl, sym, subst}
+use Rattle.std.proofs.Common.{◌≡◌, ℕ, ◌&&◌, Bool, true, false, not, List, Option, Some, None, Result, Ok, is_some, IfOk, refl, sym, subst}
 use Rattle.std.specs.Option.{option_map}
 use Rattle.sm_base.specs.declared.numbers.Ident.{Ident}
 use Rattle.sm_base.specs.declared.numbers.TransferKind.TheVariants.{Initialize, Update}

@@ -6,7 +6,8 @@ ghost use Rattle.plain_answers.specs.Answering.{IsReplied, IsAnswer};
 use crate::policies::{add_rule, create_policy, set_clock};
 use crate::relations::{break_off, delete, relate, release, set_quiesced};
 use crate::reports::{
-    head, of_image, of_relation, of_volume, show_policies, show_relations, show_snapshots, show_volumes,
+    head, of_image, of_relation, of_volume, show_policies, show_relations, show_snapshots,
+    show_volumes,
 };
 use crate::transfers::{abort, initialize, resync, update};
 use crate::volumes::{cp, create_volume, read, snap, unsnap, write};
@@ -16,11 +17,7 @@ use std::alloc::Global;
 
 // The answer to an event that the world alone answers.
 #[tactic(auto, unfolding(sm_model::specs::Answer::answer))]
-fn answer_of(
-    world: &mut PlainWorld,
-    alloc: Global,
-    event: &Event,
-) -> Result<Reply, PlainFault>
+fn answer_of(world: &mut PlainWorld, alloc: Global, event: &Event) -> Result<Reply, PlainFault>
     ensures { IfOk result (λ reply. IsAnswer world.old (answer world.old event.now) reply world.new) }
 {
     match event {
@@ -76,7 +73,8 @@ fn answer_of(
 
 /// Answers an event and changes the world as that says; a worker's step and a restart have no answer.
 ///
-/// An `Err` leaves the world unspecified. `TooGreat` does not come in worlds within the limits.
+/// An `Err` leaves the world unspecified. `TooGreat` does not come in worlds within the limits whose places
+/// all stand, at an event that names what stands.
 #[tactic(auto, unfolding(sm_model::specs::Answer::answer))]
 pub fn answer(
     world: &mut PlainWorld,

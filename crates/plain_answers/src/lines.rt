@@ -10,7 +10,8 @@ use plain_world::{PlainFault, PlainVolume, PlainWorld, mirror_state, status, use
 use sha2::{Digest, Sha256};
 use sm_base::{NoMemory, VolNo};
 use sm_model::{
-    Condition, Course, Line, Rules, WorldPolicy, WorldRelation, WorldRule, WorldTransfer, copy_label,
+    Condition, Course, Line, Rules, WorldPolicy, WorldRelation, WorldRule, WorldTransfer,
+    copy_label,
 };
 use std::alloc::Global;
 

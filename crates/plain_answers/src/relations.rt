@@ -290,11 +290,7 @@ fn place_of_half(relations: &[WorldRelation], source: usize, destination: usize)
     first_half(relations, source, destination)
 }
 
-fn released_among(
-    relations: &[WorldRelation],
-    source: usize,
-    destination: usize,
-) -> Option<usize>
+fn released_among(relations: &[WorldRelation], source: usize, destination: usize) -> Option<usize>
     ensures { IsReleased relations.now source destination result }
 {
     match place_of_half(relations, source, destination) {

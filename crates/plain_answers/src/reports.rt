@@ -17,11 +17,7 @@ use sm_base::{NoMemory, Path, RelNo, VolNo};
 use sm_model::{Line, Lines, Reply, WorldPolicy, WorldRelation};
 use std::alloc::Global;
 
-fn volume_lines(
-    alloc: Global,
-    first: u32,
-    volumes: &[PlainVolume],
-) -> Result<Vec<Line>, PlainFault>
+fn volume_lines(alloc: Global, first: u32, volumes: &[PlainVolume]) -> Result<Vec<Line>, PlainFault>
     ensures { IfOk result (λ lines. lines.items ≡ model.volume_lines first volumes.now) }
 {
     match volumes {
@@ -72,11 +68,7 @@ fn lines_at(alloc: Global, world: &PlainWorld, at: usize) -> Result<Vec<Line>, P
 }
 
 /// The table of a volume's snapshots.
-pub fn show_snapshots(
-    world: &PlainWorld,
-    alloc: Global,
-    path: &Path,
-) -> Result<Reply, PlainFault>
+pub fn show_snapshots(world: &PlainWorld, alloc: Global, path: &Path) -> Result<Reply, PlainFault>
     ensures { IfOk result (λ reply. Answers world.now (model.show_snapshots world.now path.now) reply world.now) }
 {
     let Some(at) = place_of(world, path) else {
@@ -209,11 +201,7 @@ fn numbered(world: &PlainWorld, number: RelNo) -> Result<&WorldRelation, PlainFa
 }
 
 /// The report's line on a relationship.
-pub fn of_relation(
-    world: &PlainWorld,
-    alloc: Global,
-    number: RelNo,
-) -> Result<Reply, PlainFault>
+pub fn of_relation(world: &PlainWorld, alloc: Global, number: RelNo) -> Result<Reply, PlainFault>
     ensures { IfOk result (λ reply. Answers world.now (model.of_relation world.now number) reply world.now) }
 {
     let relation = numbered(world, number)?;

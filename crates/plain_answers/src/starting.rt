@@ -80,10 +80,7 @@ pub(crate) fn next_legs(
     Ok(legs(alloc, number, policy, base, &source, there)?)
 }
 
-fn labels_of(
-    alloc: Global,
-    snapshots: &[PlainSnapshot],
-) -> Result<Vec<Option<Label>>, NoMemory>
+fn labels_of(alloc: Global, snapshots: &[PlainSnapshot]) -> Result<Vec<Option<Label>>, NoMemory>
     ensures { IfOk result (λ all. all.items ≡ labels snapshots.now) }
 {
     match snapshots {
@@ -248,10 +245,7 @@ pub(crate) fn put(world: &mut PlainWorld, at: usize, relation: WorldRelation)
 }
 
 /// The same relationship with another transfer.
-pub(crate) fn with_transfer(
-    relation: &WorldRelation,
-    transfer: WorldTransfer,
-) -> WorldRelation
+pub(crate) fn with_transfer(relation: &WorldRelation, transfer: WorldTransfer) -> WorldRelation
     ensures { result ≡ model.with_transfer relation.now transfer }
 {
     WorldRelation {

@@ -170,7 +170,11 @@ fn copy_transfer(alloc: Global, transfer: &WorldTransfer) -> Result<WorldTransfe
     })
 }
 
-fn with_later(alloc: Global, transfer: &WorldTransfer, later: &[Ident]) -> Result<WorldTransfer, NoMemory>
+fn with_later(
+    alloc: Global,
+    transfer: &WorldTransfer,
+    later: &[Ident],
+) -> Result<WorldTransfer, NoMemory>
     ensures { IfOk result (λ next. next ≡ record transfer.now { legs = later.now; checkpoint = 0; landed = [] }) }
 {
     Ok(WorldTransfer {
@@ -185,7 +189,11 @@ fn with_later(alloc: Global, transfer: &WorldTransfer, later: &[Ident]) -> Resul
     })
 }
 
-fn with_base(relation: &WorldRelation, base: Option<Ident>, transfer: Option<WorldTransfer>) -> WorldRelation
+fn with_base(
+    relation: &WorldRelation,
+    base: Option<Ident>,
+    transfer: Option<WorldTransfer>,
+) -> WorldRelation
     ensures { result ≡ record relation.now { base = base; transfer = transfer } }
 {
     WorldRelation {
@@ -277,11 +285,7 @@ fn is_done(transfer: &WorldTransfer) -> bool
     transfer.legs.is_empty()
 }
 
-fn halted(
-    alloc: Global,
-    transfer: &WorldTransfer,
-    prefix: u32,
-) -> Result<WorldTransfer, NoMemory>
+fn halted(alloc: Global, transfer: &WorldTransfer, prefix: u32) -> Result<WorldTransfer, NoMemory>
     requires { prefix ≡ model.landed_prefix transfer.now.landed }
     ensures { IfOk result (λ t. t ≡ model.halted transfer.now) }
 {

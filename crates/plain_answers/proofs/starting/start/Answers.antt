@@ -1,7 +1,5 @@
-use Rattle.std.proofs.Common.{◌≡◌, Ok, refl, sym, ap, ◌∙◌}
-use Rattle.sm_model.specs.declared.reply.Reply.TheVariants as replies
-use Rattle.sm_defs.specs.World.{Up, relation_at}
-use Rattle.sm_model.specs.Answers.{Reached, told}
+use Rattle.std.proofs.Common.{refl, sym, ◌∙◌}
+use Rattle.sm_defs.specs.World.{relation_at}
 use Rattle.plain_answers.proofs.Begun.{no_room, no_leg, no_number, begun}
 use Rattle.plain_answers.proofs.starting.start.Goals as goal
 
@@ -14,9 +12,11 @@ returns-then-is_nothing c =
     no_leg c.args.world.now c.args.at (relation_at c.args.world.now c.args.at) c.args.kind c.in_ok-legs.legs c.in_ok-legs.ensures (sym c.in_ok-refusal.ensures ∙ c.in_default.is) (sym c.is_nothing.ensures ∙ c.if-is_nothing.true)
 
 pub returns-then-has_all_transfers : goal.returns-then-has_all_transfers
-returns-then-has_all_transfers c =
-    (no_number c.args.world.now c.args.at (relation_at c.args.world.now c.args.at) c.args.kind c.in_ok-legs.legs c.in_ok-legs.ensures (sym c.in_ok-refusal.ensures ∙ c.in_default.is) (sym c.is_nothing.ensures ∙ c.if-is_nothing.false)
-    (sym c.has_all_transfers.ensures ∙ c.if-has_all_transfers.true), refl)
+returns-then-has_all_transfers c = (
+  no_number c.args.world.now c.args.at (relation_at c.args.world.now c.args.at) c.args.kind c.in_ok-legs.legs c.in_ok-legs.ensures (sym c.in_ok-refusal.ensures ∙ c.in_default.is) (sym c.is_nothing.ensures ∙ c.if-is_nothing.false)
+      (sym c.has_all_transfers.ensures ∙ c.if-has_all_transfers.true),
+  refl,
+)
 
 pub returns : goal.returns
 returns c =

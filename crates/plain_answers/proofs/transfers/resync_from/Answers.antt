@@ -8,9 +8,11 @@ returns-in-Err c =
     (no_room_again c.args.world.now c.args.at (relation_at c.args.world.now c.args.at) c.args.base c.args.left.now c.in_ok-legs.legs c.in-Err.refusal c.in_ok-legs.ensures (sym c.in_ok-refusal.ensures ∙ c.in-Err.is), refl)
 
 pub returns-then-has_all_transfers : goal.returns-then-has_all_transfers
-returns-then-has_all_transfers c =
-    (no_number_again c.args.world.now c.args.at (relation_at c.args.world.now c.args.at) c.args.base c.args.left.now c.in_ok-legs.legs c.in_ok-legs.ensures (sym c.in_ok-refusal.ensures ∙ c.in_default.is)
-    (sym c.has_all_transfers.ensures ∙ c.if-has_all_transfers.true), refl)
+returns-then-has_all_transfers c = (
+  no_number_again c.args.world.now c.args.at (relation_at c.args.world.now c.args.at) c.args.base c.args.left.now c.in_ok-legs.legs c.in_ok-legs.ensures (sym c.in_ok-refusal.ensures ∙ c.in_default.is)
+      (sym c.has_all_transfers.ensures ∙ c.if-has_all_transfers.true),
+  refl,
+)
 
 pub returns : goal.returns
 returns c =

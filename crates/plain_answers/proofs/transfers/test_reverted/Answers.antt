@@ -1,4 +1,4 @@
-use Rattle.std.proofs.Common.{◌≡◌, true, false, sym, ap, ◌∙◌, Bool}
+use Rattle.std.proofs.Common.{sym, ap, ◌∙◌}
 use Rattle.sm_defs.specs.Relationship.{Relationship, is_mirror}
 use Rattle.sm_defs.specs.World.{volume_at, relation_at, policy_at}
 use Rattle.plain_answers.proofs.Holding.{spared, tested}
