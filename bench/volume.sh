@@ -1,5 +1,5 @@
 #!/bin/sh
-# Times the calls of a volume of 4,096 blocks over a disk in memory, at 1, 24 and 255 snapshots: a client's
+# Times the calls of a volume of 4,096 blocks over a disk in memory, at 0, 1, 24 and 255 snapshots: a client's
 # write, a consistency point, a snapshot with its removal, a removal, and what encoding the same root
 # takes. It tells the user time of one call without what making the volume takes, how often that is the
 # encoding's, and the most memory. At most 2.00 is wanted. Not run by the gate.
@@ -47,16 +47,17 @@ def tell(what, time, encoding):
     print(f"    {what:<26} {time:10.1f} us   {time / encoding:5.2f} of the encoding")
 
 
-for snapshots, calls in (1, 3000), (24, 400), (255, 60):
+for snapshots, calls in (0, 3000), (1, 3000), (24, 400), (255, 60):
     write = each("write", snapshots, 10000)
     encoding = each("encode", snapshots, 5 * calls)
     print(f"{snapshots} snapshots: a write {write:.2f} us, the encoding {encoding:.1f} us")
     # Four writes come before each consistency point.
     tell("consistency point", each("commit", snapshots, calls) - 4 * write, encoding)
     tell("removal", each("remove", snapshots, calls), encoding)
-    # The snapshot is the last one of so many, and its removal writes a shorter record.
-    shorter = each("encode", snapshots - 1, 5 * calls)
-    tell("snapshot and its removal", each("snapshot", snapshots - 1, calls), encoding + shorter)
+    if snapshots > 0:
+        # The snapshot is the last one of so many, and its removal writes a shorter record.
+        shorter = each("encode", snapshots - 1, 5 * calls)
+        tell("snapshot and its removal", each("snapshot", snapshots - 1, calls), encoding + shorter)
     tell("of it the disk alone", each("disk", snapshots, calls), encoding)
 
 # What the disk keeps of each record that was written is no memory of the volume's.

@@ -31,32 +31,14 @@ use Rattle.volume_store.specs.Opened.{empty_maps}
 use Rattle.volume_store.specs.Refusals.{used_of}
 use Rattle.volume_store.specs.Refusals as store_refusals
 use Rattle.volume_store.specs.Snapshot as store_snapshot
+use Rattle.volume_store.proofs.Found.{nowhere}
 use Rattle.volume_store.proofs.Sound.{among_map_from, among_map_to}
 use Rattle.sm_volume.specs.Seen.{block_of, image_of, seen_snapshot, volume_of}
 use Rattle.sm_volume.specs.Mounted.{Mounted, mounted}
 use Rattle.sm_volume.specs.Assigned.{IsLeastFree, HasBlock, written, snapped, without, staying, reverted, IsReverted}
 use Rattle.sm_volume.specs.Refusals.{snapshot_refusal, remove_refusal, write_refusal, read_refusal, revert_refusal, image_seen, unless_seen}
-use Rattle.sm_volume.proofs.BlockLemmas.{neither, bytes_same, volume_used, keeps_others}
+use Rattle.sm_volume.proofs.BlockLemmas.{bytes_same, volume_used, keeps_others}
 use Rattle.sm_volume.proofs.SeenLemmas.{used_seen, uses_seen, any_seen, has_seen, length_seen, filter_seen, find_seen, up_to_seen, all_images}
-
-same_self : (i : Ident) → same_ident i i ≡ true
-same_self i =
-    let origin : (i.origin == i.origin) ≡ true = grind (arith, nat_tests) in
-    let seq : (i.seq == i.seq) ≡ true = grind (arith, nat_tests) in
-    rw (origin, seq) refl
-
--- no snapshot has an identity that stands nowhere
-nowhere : (i : Ident) (ss : List RootSnapshot) → list_any (λ (s : RootSnapshot). same_ident s.ident i) ss ≡ false → (s : RootSnapshot) → Among ss s → ¬ (s.ident ≡ i)
-nowhere i [] h s a e = a
-nowhere i (t ∷ ss) h s (inl a) e =
-    let parts = neither (same_ident t.ident i) (list_any (λ (u : RootSnapshot). same_ident u.ident i) ss) h in
-    let is : t.ident ≡ i = sym (ap (λ (u : RootSnapshot). u.ident) a) ∙ e in
-    let same : same_ident i i ≡ false = rw is at parts.0 in
-    let itself = same_self i in
-    absurd (cc)
-nowhere i (t ∷ ss) h s (inr a) e =
-    let parts = neither (same_ident t.ident i) (list_any (λ (u : RootSnapshot). same_ident u.ident i) ss) h in
-    nowhere i ss parts.1 s a e
 
 pub new_seen : (c : disk.Image) (i : Ident) (ss : List RootSnapshot) → has (map (seen_snapshot c) ss) i ≡ false → (s : RootSnapshot) → Among ss s → ¬ (s.ident ≡ i)
 new_seen c i ss h = nowhere i ss (sym (has_seen c ss i) ∙ h)
@@ -166,6 +148,7 @@ abbrev pub SeesWritten : {D : Type 0} → (D → DiskState) → ℕ → List ℕ
 SeesWritten state at bytes old new =
     (b : Block) × IsLeastFree old.volume b.tag × (new ≡ record old { disk = new.disk; volume = written old.volume at b })
     × (IsTrue (state old.disk).told → b.bytes ≡ bytes)
+    × (IsTrue (state old.disk).told → block_at (state new.disk).seen b.tag ≡ bytes)
 
 module _ {D : Type 0} (state : D → DiskState) (old new : Held D) (at : ℕ) (bytes : List ℕ) (none : old.after ≡ None)
     (spared : (n : ℕ) → store_maps.IsLeastFree old.maps n → Spares (IsOutside (block_start n) 4096) (state old.disk) (state new.disk)) where
@@ -183,6 +166,7 @@ module _ {D : Type 0} (state : D → DiskState) (old new : Held D) (at : ℕ) (b
             ∙ ap (λ (o : Option Maps). build (written (volume_of [] 0 c old.maps) at (block_of d n)) (option_map (volume_of [] 0 d) o)) none
             ∙ ap (λ (o : Option Maps). build (written (volume_of [] 0 c old.maps) at (block_of d n)) (option_map (volume_of [] 0 c) o)) (sym none),
         λ told. block_bytes d n h.1.from_one ∙ h.3 told,
+        h.3,
       )
 
   -- a write that fails changes no block that the volume uses

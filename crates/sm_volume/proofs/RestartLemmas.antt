@@ -66,8 +66,9 @@ abbrev pub HasRestarted : {D : Type 0} → Held D → Side → Held D → Type 0
 HasRestarted old side new = (maps : Maps) × (taken_side side old.maps old.after ≡ Some maps) × (new ≡ record { disk = new.disk; number = new.number; maps = restarted maps; after = None; up = true })
 
 pub restarted_seen : {D : Type 0} (state : D → DiskState) (old new : Held D) (side : Side) → IsAsLarge old.after old.maps.root → HasRestarted old side new
-    → (IsTrue (state old.disk).told → store_held.ShowsSide side old.number old.maps old.after (state old.disk).seen (state new.disk).seen) → IsRestarted state (mounted state old) side (mounted state new)
-restarted_seen state old new side same h shown =
+    → (IsTrue (state old.disk).told → store_held.ShowsSide side old.number old.maps old.after (state old.disk).seen (state new.disk).seen)
+    → (IsTrue (state old.disk).told → new.number ≡ store_held.number_of side old.number) → IsRestarted state (mounted state old) side (mounted state new)
+restarted_seen state old new side same h shown selects =
     let c = (state old.disk).seen in
     let d = (state new.disk).seen in
     let m = h.0 in
@@ -83,6 +84,7 @@ restarted_seen state old new side same h shown =
       ap (λ (x : Maps). bare (volume_of [] 0 d x)) maps ∙ bare_seen d c (restarted m),
       λ told. let selected = side_shown side old.number old.maps old.after m c d h.1 (shown told) in
           ap (volume_of [] 0 d) maps ∙ seen_again [] 0 selected.0 m c d selected.1,
+      selects,
     )
 
 bare_after : (c d : disk.Image) (o : Option Maps) → option_map bare (option_map (volume_of [] 0 c) o) ≡ option_map bare (option_map (volume_of [] 0 d) o)
@@ -123,9 +125,10 @@ still_down state old new held is image =
     }
 
 pub restart_ok : {D : Type 0} (state : D → DiskState) (old new : Held D) → IsHeld state old → (r : Result Side VolumeFault) → IfOk r (λ side. HasRestarted old side new)
-    → IfOk r (λ side. IsTrue (state old.disk).told → store_held.ShowsSide side old.number old.maps old.after (state old.disk).seen (state new.disk).seen) → IfOk r (λ side. IsRestarted state (mounted state old) side (mounted state new))
-restart_ok state old new held (Ok side) h shown = restarted_seen state old new side held.as_large h shown
-restart_ok state old new held (Err x) h shown = tt
+    → IfOk r (λ side. IsTrue (state old.disk).told → store_held.ShowsSide side old.number old.maps old.after (state old.disk).seen (state new.disk).seen)
+    → IfOk r (λ side. IsTrue (state old.disk).told → new.number ≡ store_held.number_of side old.number) → IfOk r (λ side. IsRestarted state (mounted state old) side (mounted state new))
+restart_ok state old new held (Ok side) h shown selects = restarted_seen state old new side held.as_large h shown selects
+restart_ok state old new held (Err x) h shown selects = tt
 
 pub restart_side : {D : Type 0} (state : D → DiskState) (old new : Held D) → IsHeld state old → (r : Result Side VolumeFault)
     → IfOk r (λ side. IsTrue (state old.disk).told → store_held.ShowsSide side old.number old.maps old.after (state old.disk).seen (state new.disk).seen)

@@ -1,5 +1,5 @@
 -- What is seen of a volume, and what its maps say.
-use Rattle.std.proofs.Common.{◌≡◌, ℕ, suc, ◌==◌, ◌||◌, Bool, true, false, List, [], ◌∷◌, ◌++◌, map, flat_map, length, refl, ap, ◌∙◌, Option, Some, option_map, find, cond}
+use Rattle.std.proofs.Common.{◌≡◌, ℕ, suc, Bool, true, false, List, [], ◌∷◌, map, flat_map, length, refl, ap, ◌∙◌, Option, Some, option_map, find, cond}
 use Rattle.std.specs.List.{filter, list_any}
 use Rattle.sm_base.specs.declared.numbers.Ident.{Ident}
 use Rattle.sm_defs.specs.Image.{Image, stands, tags, distinct}
@@ -11,6 +11,7 @@ use Rattle.sm_root.specs.declared.root.RootSnapshot.{RootSnapshot}
 use Rattle.sm_root.specs.Condition.{map_of}
 use Rattle.volume_store.specs.Maps.{Maps, all_maps, uses}
 use Rattle.volume_store.specs.Refusals.{used_of}
+use Rattle.volume_store.proofs.MapLemmas.{stands-append}
 use Rattle.sm_volume.specs.Seen.{image_of, seen_snapshot, volume_of, kept_snapshot, root_of}
 
 -- the numbers that the images have are those that the maps have
@@ -31,14 +32,6 @@ tags_of_seen path number c m = rw (images_seen c m.root.snapshots) (maps_seen c 
 
 pub used_seen : (path : List ℕ) (number : ℕ) (c : disk.Image) (m : Maps) → used (volume_of path number c m) ≡ used_of m
 used_seen path number c m = ap distinct (tags_of_seen path number c m)
-
-stands-append : (t : ℕ) (xs ys : List ℕ) → stands t (xs ++ ys) ≡ (stands t xs || stands t ys)
-stands-append t [] ys = refl
-stands-append t (x ∷ xs) ys = or_assoc (x == t) (stands t xs) (stands t ys) (stands t (xs ++ ys)) (stands-append t xs ys)
-  where
-    or_assoc : (a b c e : Bool) → e ≡ (b || c) → (a || e) ≡ ((a || b) || c)
-    or_assoc true b c e h = refl
-    or_assoc false b c e h = h
 
 in_maps : (t : ℕ) (maps : List (List ℕ)) → stands t (flat_map (λ (numbers : List ℕ). numbers) maps) ≡ uses maps t
 in_maps t [] = refl

@@ -23,7 +23,8 @@ impl<D: Disk> Volume<D> {
         ensures refused { RefusesOrFails (write_refusal self.old.volume at) result }
         ensures ok { OnOk result ((b : PlainBlock) × IsLeastFree self.old.volume b.tag
             × (self.new ≡ record self.old { disk = self.new.disk; volume = written self.old.volume at b })
-            × (IsTrue (D.state self.old.disk).told → b.bytes ≡ block.now.0)) }
+            × (IsTrue (D.state self.old.disk).told → b.bytes ≡ block.now.0)
+            × (IsTrue (D.state self.old.disk).told → block_at (D.state self.new.disk).seen b.tag ≡ block.now.0)) }
         ensures fault { result ≡ Err VolumeFault.DiskFault → self.new ≡ fallen self.old self.new.disk }
         ensures counted { result ≡ Err VolumeFault.DiskFault → IsCounted (D.state self.old.disk) (D.state self.new.disk) }
         ensures unchanged { (fault : VolumeFault) → result ≡ Err fault → (fault ≡ VolumeFault.DiskFault → ⊥) → self.new ≡ self.old }

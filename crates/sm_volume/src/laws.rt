@@ -4,7 +4,8 @@ ghost use Rattle.sm_volume.specs.Worlds.{DisksGoTogether, PartGoesOn, PartIsComm
 use sm_disk::Disk;
 
 /// Over any number of disks, of which one commits: one image of each disk, from any moment of the
-/// event, shows the world before or the one after, and the committing disk's image decides which.
+/// event, show the world before, or the committing disk's shows its part after, and then all show the
+/// whole world after where the others' images are from the event's end.
 #[tactic(auto, using(crate::proofs::Together::all_together))]
 pub fn disks_go_together<D: Disk>()
     ensures { DisksGoTogether D.state }

@@ -1,6 +1,7 @@
 // A volume, and what holds of it.
 ghost use Rattle.std.specs.Prelude.{◌≡◌};
 
+use sm_base::Ident;
 use sm_disk::Disk;
 use sm_root::Root;
 use std::marker::Model;
@@ -21,7 +22,7 @@ impl<D: Disk> Model for Volume<D> {
 }
 
 impl<D: Disk> Volume<D> {
-    ghost use Rattle.sm_defs.specs.Volume.{used};
+    ghost use Rattle.sm_defs.specs.Volume.{has, used};
     ghost use Rattle.sm_volume.specs.Seen.{root_of};
     ghost use Rattle.sm_volume.specs.Kept.{IsKept};
 
@@ -37,6 +38,13 @@ impl<D: Disk> Volume<D> {
         ensures { result.now ≡ root_of self.now.number self.now.volume }
     {
         self.store.root()
+    }
+
+    /// Whether the volume has a snapshot of the identity.
+    pub fn has_snapshot(&self, ident: Ident) -> bool
+        ensures { result ≡ has self.now.volume.snapshots ident }
+    {
+        self.store.has_snapshot(ident)
     }
 
     /// How many physical blocks the active image, the stable one and the snapshots use.

@@ -1,12 +1,8 @@
 // The calls of a volume.
-ghost use Rattle.std.specs.Prelude.{◌≡◌, true, false, OnOk, IfOk};
-ghost use Rattle.std.specs.List.{list_any};
-ghost use Rattle.sm_defs.specs.Words.{Among, same_ident};
-ghost use Rattle.sm_root.specs.declared.root.RootSnapshot.{RootSnapshot};
+ghost use Rattle.std.specs.Prelude.{◌≡◌, true, OnOk, IfOk};
 
 use sm_base::{Block, Ident, Kind, NameFault, NoMemory, SnapName, VolNo};
 use sm_memdisk::MemDisk;
-use sm_root::RootSnapshot;
 use std::alloc::Global;
 use volume_store::{Store, VolumeFault};
 
@@ -65,29 +61,13 @@ pub fn write_blocks(volume: &mut Store<MemDisk>, from: u32, count: u32) -> Resul
     Ok(())
 }
 
-// Whether a snapshot has the identity.
-fn has_ident(snapshots: &[RootSnapshot], ident: Ident) -> bool
-    ensures { result ≡ list_any (λ s. same_ident s.ident ident) snapshots.now }
-{
-    snapshots.iter().any(|snapshot| {
-        snapshot.ident.origin == ident.origin && snapshot.ident.seq == ident.seq
-    })
-}
-
-// Whether the identity is not new.
-fn is_taken(snapshots: &[RootSnapshot], ident: Ident) -> bool
-    ensures { result ≡ false → (s : RootSnapshot) → Among snapshots.now s → ¬ (s.ident ≡ ident) }
-{
-    has_ident(snapshots, ident)
-}
-
 // Takes the snapshot of that number.
 fn take_snapshot(alloc: Global, volume: &mut Store<MemDisk>, number: u32) -> Result<(), VolumeFault>
     requires { volume.old.up ≡ true }
     ensures { OnOk result (volume.new.up ≡ true) }
 {
     let ident = ident_of(number);
-    if is_taken(volume.root().snapshots.as_slice(), ident) {
+    if volume.has_snapshot(ident) {
         return Err(VolumeFault::SnapFull);
     }
     let text = name_of(alloc, number)?;

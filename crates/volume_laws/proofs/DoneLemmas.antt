@@ -1,18 +1,15 @@
 -- What the clauses of a volume's calls say of the plain assignments.
-use Rattle.std.proofs.Common.{◌≡◌, inl, inr, ℕ, suc, ◌<◌, ◌≤◌, length, get_or, Bool, true, false, ◌||◌, cond, List, [], ◌∷◌, ◌++◌, map, take, drop, replicate, refl, sym, ap, ◌∙◌, subst, Option, Some, None, Result, Ok, Err, OnOk, OnErr, IsErr, IsTrue}
+use Rattle.std.proofs.Common.{◌≡◌, inl, inr, ℕ, suc, ◌<◌, ◌≤◌, length, get_or, Bool, true, false, cond, List, [], ◌∷◌, ◌++◌, map, take, drop, replicate, refl, sym, ap, ◌∙◌, subst, Option, Some, None, Result, Ok, Err, OnOk, OnErr, IsErr, IsTrue}
 use Rattle.sm_base.specs.declared.numbers.Ident.{Ident}
 use Rattle.sm_base.specs.declared.numbers.Side.{Side}
 use Rattle.sm_base.specs.declared.numbers.Side.TheVariants.{Before, After}
 use Rattle.sm_defs.specs.Image.{Block, full_block}
-use Rattle.std.specs.List.{list_any}
 use Rattle.std.specs.Prelude.{Vec}
 use Rattle.std.specs.declared.alloc.Global.{Global}
 use Rattle.std.proofs.Math.Seq.{drop-cons}
 use Rattle.std.proofs.lemmas.List.{take-append-drop, take_all, append-nil}
-use Rattle.sm_defs.specs.Volume.{Volume, Snapshot, has}
-use Rattle.sm_defs.specs.Words.{same_ident}
-use Rattle.sm_root.specs.declared.root.RootSnapshot.{RootSnapshot}
-use Rattle.sm_volume.specs.Seen.{kept_snapshot, image_of}
+use Rattle.sm_defs.specs.Volume.{Volume, has}
+use Rattle.sm_volume.specs.Seen.{image_of}
 use Rattle.sm_disk.specs.Disk.{DiskState}
 use Rattle.volume_store.specs.declared.faults.VolumeFault.{VolumeFault}
 use Rattle.volume_store.specs.declared.faults.VolumeFault.TheVariants.{DiskFault, NoSnapshot, NameTaken, NoMemory as OutOfMemory}
@@ -27,7 +24,7 @@ use Rattle.sm_volume.specs.Assigned.{IsLeastFree, IsReverted, written, snapped, 
 use Rattle.sm_volume.specs.Refusals.{write_refusal, revert_refusal, snapshot_refusal, adopt_refusal}
 use Rattle.volume_laws.specs.declared.call.Call.{Call}
 use Rattle.volume_laws.specs.declared.call.Call.TheVariants as calls
-use Rattle.volume_laws.specs.Assigned.{Plain, plain, Assigns, AssignsAll, AreReady}
+use Rattle.volume_laws.specs.Assigned.{Plain, plain, Assigns, AssignsAll, AreReady, AskNothing}
 use Rattle.volume_laws.specs.Answered.{Answers, AnswersAll, IsDone, AreDone}
 
 -- a commit that is answered Ok
@@ -71,6 +68,7 @@ abbrev pub IsWritten : {D : Type 0} → (D → DiskState) → ℕ → List ℕ �
 IsWritten state at bytes old new =
     (b : Block) × IsLeastFree old.volume b.tag × (new ≡ record old { disk = new.disk; volume = written old.volume at b })
     × (IsTrue (state old.disk).told → b.bytes ≡ bytes)
+    × (IsTrue (state old.disk).told → block_at (state new.disk).seen b.tag ≡ bytes)
 
 pub done_write : {D : Type 0} (state : D → DiskState) (at fill : ℕ) (bytes : List ℕ) (old new : Mounted D) (r : Result (Unit {0}) VolumeFault) → bytes ≡ replicate 4096 fill → old.up ≡ true
     → RefusesOrFails (write_refusal old.volume at) r → OnOk r (IsWritten state at bytes old new) → ((n : ℕ) → IsLeastFree old.volume n → KeepsBlocks (λ k. k ≡ n) (state old.disk) (state new.disk))
@@ -78,7 +76,7 @@ pub done_write : {D : Type 0} (state : D → DiskState) (at fill : ℕ) (bytes :
 unfolding Assigns Answers
 done_write state at fill bytes old new (Ok u) is up refused ok blocks told = record {
   answers = refused;
-  assigned = (ok.0, ok.1, λ t. full_bytes ok.0 fill (ok.3 t ∙ is), ap (λ v. v.volume) ok.2, (blocks ok.0.tag ok.1).seen);
+  assigned = (ok.0, ok.1, λ t. full_bytes ok.0 fill (ok.3 t ∙ is), λ t. ok.4 t ∙ sym (ok.3 t), ap (λ v. v.volume) ok.2, (blocks ok.0.tag ok.1).seen);
   up = ap (λ v. v.up) ok.2 ∙ up;
   told = told;
 }
@@ -165,11 +163,6 @@ done_adopt state h k map items family drops gone old new r head numbers dropped 
     let commits_d = subst (λ (is : List Ident). Commits state old (adopted old.volume (snapshot_of h (image_of seen map.items)) family is) r new) dropped commits_m in
     done_commit state (calls.Adopt h map family drops) old new (adopted old.volume (snapshot_of h (image_of seen map.items)) family drops.items) r up commits_d (inl refused_d) (λ x. x)
 
--- the snapshots of the root have the same identities
-pub any_kept : (i : Ident) (ss : List Snapshot) → list_any (λ (s : RootSnapshot). same_ident s.ident i) (map kept_snapshot ss) ≡ has ss i
-any_kept i [] = refl
-any_kept i (s ∷ ss) = ap (λ (b : Bool). same_ident s.ident i || b) (any_kept i ss)
-
 -- without a commit whose outcome is not known, the volume is the one before
 before_side : (side : Side) (v w : Volume) (after : Option Volume) → after ≡ None → of_side side v after ≡ Some w → w ≡ v
 before_side Before v w after none is = cc
@@ -193,6 +186,11 @@ failed_restart state old new told = record { answers = refl; assigned = tt; up =
 pub assigned_next : (told : Bool) (cs : List Call) (c : Call) (old mid new : Plain) → AssignsAll told cs old mid → Assigns told c mid new → AssignsAll told (cs ++ c ∷ []) old new
 assigned_next told [] c old mid new all one = (new, subst (λ v. Assigns told c v new) all one, refl)
 assigned_next told (d ∷ cs) c old mid new all one = (all.0, all.1, assigned_next told cs c all.0 mid new all.2 one)
+
+-- calls that ask for nothing are ready
+pub ready : (told : Bool) (cs : List Call) (p : Plain) → AskNothing cs → AreReady told cs p
+ready told [] p asked = tt
+ready told (c ∷ cs) p asked = (asked.0 p.volume, λ mid made. ready told cs mid asked.1)
 
 -- the calls behind those that were made are ready
 pub ready_then : (told : Bool) (cs ds : List Call) (old mid : Plain) → AreReady told (cs ++ ds) old → AssignsAll told cs old mid → AreReady told ds mid

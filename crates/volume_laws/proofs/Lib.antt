@@ -1,1 +1,1 @@
-mod DoneLemmas
+pub mod DoneLemmas

@@ -29,6 +29,7 @@ pub record IsPut (told : Bool) (n fill : ℕ) (old new : disk.Image) : Type 0 wh
 unfoldable pub Assigns : Bool → the_call.Call → Plain → Plain → Type 0
 Assigns told (calls.Write at fill) old new =
     (b : Block) × IsLeastFree old.volume b.tag × (IsTrue told → b ≡ full_block b.tag fill)
+    × (IsTrue told → block_at new.reads b.tag ≡ b.bytes)
     × (new.volume ≡ written old.volume at b) × SameBlocks (λ k. k ≡ b.tag) old.reads new.reads
 Assigns told calls.ConsistencyPoint old new = (new.volume ≡ settled old.volume) × SameBlocks NoBlock old.reads new.reads
 Assigns told (calls.Snapshot ident name label time) old new =
@@ -56,3 +57,8 @@ IsReady _ v = Unit {0}
 abbrev pub AreReady : Bool → List the_call.Call → Plain → Type 0
 AreReady told [] old = Unit {0}
 AreReady told (c ∷ cs) old = IsReady c old.volume × ((mid : Plain) → Assigns told c old mid → AreReady told cs mid)
+
+-- calls of which each may come in any state
+abbrev pub AskNothing : List the_call.Call → Type 0
+AskNothing [] = Unit {0}
+AskNothing (c ∷ cs) = ((v : Volume) → IsReady c v) × AskNothing cs

@@ -1,7 +1,4 @@
 ghost use Rattle.std.specs.Prelude.{◌≡◌, true, IfOk};
-ghost use Rattle.std.specs.List.{list_any};
-ghost use Rattle.sm_defs.specs.Volume.{has};
-ghost use Rattle.sm_defs.specs.Words.{same_ident};
 ghost use Rattle.volume_laws.specs.Assigned.{plain, IsReady, AreReady};
 ghost use Rattle.volume_laws.specs.Answered.{IsDone, AreDone};
 ghost use Rattle.volume_laws.specs.declared.call.Call.TheVariants.{Write, ConsistencyPoint, Snapshot, Remove, MakeWritable, Revert, Land, Adopt, Restart};
@@ -9,7 +6,6 @@ ghost use Rattle.volume_laws.specs.declared.call.Call.TheVariants.{Write, Consis
 use crate::call::Call;
 use sm_base::{Block, Ident, Label, NoMemory, SnapName};
 use sm_disk::Disk;
-use sm_root::RootSnapshot;
 use sm_volume::{Head, Volume, VolumeFault};
 use std::alloc::Global;
 
@@ -71,20 +67,6 @@ fn restart<D: Disk>(v: &mut Volume<D>) -> Result<(), VolumeFault>
         Ok(_) => Ok(()),
         Err(fault) => Err(fault),
     }
-}
-
-// Whether a snapshot has the identity.
-fn stands(snapshots: &[RootSnapshot], ident: Ident) -> bool
-    ensures { result ≡ list_any (λ s. same_ident s.ident ident) snapshots.now }
-{
-    snapshots.iter().any(|s| s.ident.origin == ident.origin && s.ident.seq == ident.seq)
-}
-
-// Whether the volume has a snapshot of the identity.
-fn has_snapshot<D: Disk>(v: &Volume<D>, ident: Ident) -> bool
-    ensures { result ≡ has v.now.volume.snapshots ident }
-{
-    stands(v.root().snapshots.as_slice(), ident)
 }
 
 fn copy_label(alloc: Global, label: &Option<Label>) -> Result<Option<Label>, NoMemory>
@@ -151,7 +133,7 @@ fn take<D: Disk>(
     requires up { v.old.up ≡ true }
     ensures { IsDone D.state (Snapshot ident name.now label.now time) v.old result v.new }
 {
-    if has_snapshot(v, ident) {
+    if v.has_snapshot(ident) {
         return Err(VolumeFault::NameTaken);
     }
     match client_head(alloc, ident, name, label, time) {

@@ -1,10 +1,12 @@
 -- A snapshot is looked up.
-use Rattle.std.proofs.Common.{◌≡◌, inl, inr, ℕ, suc, ◌+◌, List, [], ◌∷◌, length, take, Bool, true, false, not, ◌||◌, cond, ltb, Option, None, Some, MatchOption, Result, Ok, Err, IfOk, refl, sym, ◌∙◌, ap, subst, arith}
+use Rattle.std.proofs.Common.{◌≡◌, inl, inr, ℕ, suc, ◌+◌, List, [], ◌∷◌, length, take, Bool, true, false, not, ◌||◌, ◌==◌, cond, ltb, Option, None, Some, MatchOption, Result, Ok, Err, IfOk, refl, sym, ◌∙◌, ap, subst, arith}
 use Rattle.std.proofs.lemmas.Bool.{cases_Bool, false≢true, cases_lt}
 use Rattle.std.proofs.lemmas.Bool.Decides.{nat_tests}
 use Rattle.std.proofs.lemmas.List.{take_all}
 use Rattle.std.specs.List.{list_any, find, position, position_or_len}
-use Rattle.sm_defs.specs.Words.{Among, up_to}
+use Rattle.sm_base.specs.declared.numbers.Ident.{Ident}
+use Rattle.sm_defs.specs.Words.{Among, same_ident, up_to}
+use Rattle.sm_root.specs.declared.root.RootSnapshot.{RootSnapshot}
 
 -- what `find` tells
 abbrev pub Tells : {X : Type 0} → (X → Bool) → List X → Option X → Type 0
@@ -61,3 +63,26 @@ found_one p xs is = go (find p xs) (find_tells p xs) refl
     go : (o : Option _) → Tells p xs o → find p xs ≡ o → (x : _) × (find p xs ≡ Some x)
     go None none e = absurd (false≢true (sym none ∙ is))
     go (Some x) some e = (x, e)
+
+same_self : (i : Ident) → same_ident i i ≡ true
+same_self i =
+    let origin : (i.origin == i.origin) ≡ true = grind (arith, nat_tests) in
+    let seq : (i.seq == i.seq) ≡ true = grind (arith, nat_tests) in
+    rw (origin, seq) refl
+
+-- no snapshot has an identity that stands nowhere
+pub nowhere : (i : Ident) (ss : List RootSnapshot) → list_any (λ (s : RootSnapshot). same_ident s.ident i) ss ≡ false → (s : RootSnapshot) → Among ss s → ¬ (s.ident ≡ i)
+nowhere i [] h s a e = a
+nowhere i (t ∷ ss) h s (inl a) e =
+    let first = not_first (same_ident t.ident i) (list_any (λ (u : RootSnapshot). same_ident u.ident i) ss) h in
+    let is : t.ident ≡ i = sym (ap (λ (u : RootSnapshot). u.ident) a) ∙ e in
+    absurd (false≢true (sym first ∙ ap (λ (j : Ident). same_ident j i) is ∙ same_self i))
+  where
+    not_first : (x y : Bool) → (x || y) ≡ false → x ≡ false
+    not_first false y none = refl
+    not_first true y none = absurd (cc)
+nowhere i (t ∷ ss) h s (inr a) e = nowhere i ss (not_later (same_ident t.ident i) (list_any (λ (u : RootSnapshot). same_ident u.ident i) ss) h) s a e
+  where
+    not_later : (x y : Bool) → (x || y) ≡ false → y ≡ false
+    not_later false y none = none
+    not_later true y none = absurd (cc)

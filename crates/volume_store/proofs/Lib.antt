@@ -1,5 +1,6 @@
 pub mod MapLemmas
 pub mod PutLemmas
+pub mod MarkLemmas
 pub mod Framed
 pub mod Shown
 pub mod Sound

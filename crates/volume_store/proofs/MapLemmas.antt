@@ -39,7 +39,7 @@ pub free_are : (used : List Bool) (physical : ℕ) (maps : List (List ℕ)) → 
 free_are used physical maps are = record {
   long = length-free_of used ∙ are.long;
   hole = hole-free_of used;
-  each = λ n one within. has-free_of used n one (rw are.long (omega arith)) ∙ ap not (are.each n within);
+  each = λ n one within. has-free_of used n one (rw are.long (omega arith)) ∙ ap not (are.each n one within);
 }
 
 -- the numbers of one more map
@@ -47,7 +47,8 @@ pub used_more : (old new : List Bool) (physical : ℕ) (map : List ℕ) (maps : 
     → ((n : ℕ) → has new n ≡ (has old n || stands n map)) → AreUsed new physical (map ∷ maps)
 used_more old new physical map maps are long each = record {
   long = long ∙ are.long;
-  each = λ n within. each n ∙ ap (λ b. b || stands n map) (are.each n within) ∙ or_comm (uses maps n) (stands n map);
+  hole = each 0 ∙ ap (λ b. b || stands 0 map) are.hole;
+  each = λ n some within. each n ∙ ap (λ b. b || stands n map) (are.each n some within) ∙ or_comm (uses maps n) (stands n map);
 }
   where
     or_comm : (a b : Bool) → (a || b) ≡ (b || a)
@@ -56,16 +57,9 @@ used_more old new physical map maps are long each = record {
     or_comm false true = refl
     or_comm false false = refl
 
--- one more map is marked in a copy
-pub marked : (start copy new : List Bool) (physical : ℕ) (map given : List ℕ) (maps : List (List ℕ)) → AreUsed start physical maps → copy ≡ start → given ≡ map → length new ≡ length copy
-    → ((n : ℕ) → has new n ≡ (has copy n || stands n given)) → AreUsed new physical (map ∷ maps)
-marked start copy new physical map given maps are same is long each =
-    used_more start new physical map maps are (long ∙ ap (λ (s : List Bool). length s) same)
-    (λ n. each n ∙ ap (λ (s : List Bool). has s n || stands n given) same ∙ ap (λ (xs : List ℕ). has start n || stands n xs) is)
-
 -- the marks of as many maps that use the same numbers
 pub used_same : (set : List Bool) (physical : ℕ) (maps maps' : List (List ℕ)) → AreUsed set physical maps → ((n : ℕ) → uses maps n ≡ uses maps' n) → AreUsed set physical maps'
-used_same set physical maps maps' are same = record { long = are.long; each = λ n within. are.each n within ∙ same n }
+used_same set physical maps maps' are same = record { long = are.long; hole = are.hole; each = λ n some within. are.each n some within ∙ same n }
 
 -- the map of a snapshot behind others
 pub uses_behind : (snapshots : List RootSnapshot) (s : RootSnapshot) (n : ℕ) → uses (s.map ∷ map map_of snapshots) n ≡ uses (map map_of (snapshots ++ s ∷ [])) n
@@ -81,7 +75,10 @@ uses_behind (t ∷ ts) s n = swap (stands n s.map) (stands n t.map) (uses (map m
 -- the numbers of a map are among the marks
 pub known_in : (set : List Bool) (physical : ℕ) (maps : List (List ℕ)) (x : List ℕ) → AreUsed set physical maps → Among maps x → ((i : ℕ) → get_or x i 0 ≤ physical)
     → (i : ℕ) → i < length x → has set (get_or x i 0) ≡ true
-known_in set physical maps x are is within i less = are.each (get_or x i 0) (within i) ∙ uses_one maps x (get_or x i 0) is (stands_at x i (get_or x i 0) less refl)
+known_in set physical maps x are is within i less = elim (cases_eq (get_or x i 0) 0) [
+  | inl hole ↦ ap (has set) hole ∙ are.hole
+  | inr some ↦ are.each (get_or x i 0) (omega (arith, some)) (within i) ∙ uses_one maps x (get_or x i 0) is (stands_at x i (get_or x i 0) less refl)
+]
 
 -- the same of an empty one
 pub known_beside : (set : List Bool) (physical : ℕ) (maps : List (List ℕ)) (x : List ℕ) → AreUsed set physical maps → (x ≡ []) ⊎ Among maps x

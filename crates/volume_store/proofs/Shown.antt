@@ -12,9 +12,9 @@ use Rattle.sm_root.specs.Condition.{IsRoot, maps_of}
 use Rattle.sm_root.specs.Spelling.{spelling}
 use Rattle.sm_slots.proofs.Settled.{selects_spared}
 use Rattle.sm_slots.specs.Stored.{Record, stored, slot_of}
-use Rattle.sm_slots.specs.Slots.{BehindSlots, Selects, IsBeforeOrAfter}
+use Rattle.sm_slots.specs.Slots.{BehindSlots, Selects, IsSettled, IsCommitted, IsBeforeOrAfter}
 use Rattle.volume_store.specs.Maps.{Maps, uses}
-use Rattle.volume_store.specs.Held.{Held, block_at, block_start, Shows, ShowsAfter, ShowsEither, IsHeld}
+use Rattle.volume_store.specs.Held.{Held, block_at, block_start, Shows, ShowsAfter, ShowsEither, IsAsLarge, IsHeld}
 
 pub block-same : (c d : Image) (n : ℕ) → SameAt BehindSlots c d → block_at d n ≡ block_at c n
 unfolding block_at
@@ -31,6 +31,17 @@ shows_against number root d e c same shown = record {
 module _ (s : DiskState) (number : ℕ) (root : Root) (firm : (c : Image) → s.may_leave c → Shows number root s.seen c) where
   seen_is : IsTrue s.told → Shows number root s.seen s.seen
   seen_is told = seen_shows s (λ c. Shows number root s.seen c) firm told
+
+  -- the slots of a volume that is up
+  pub settled_of : IsSettled s number
+  settled_of = record {
+    selected = λ told. sym (seen_is told).selects.slot;
+    images = λ c may.
+        let told = image_told s c may in record {
+          slot = (firm c may).selects.slot ∙ sym (seen_is told).selects.slot;
+          stored = (firm c may).selects.stored ∙ sym (seen_is told).selects.stored;
+        };
+  }
 
   -- the images of a commit
   pub shows_commit : (bytes : List ℕ) (next : Root) → IsRoot next → bytes ≡ spelling next → (c : Image) → IsBeforeOrAfter s number bytes c → Shows number root s.seen c ⊎ Shows (1 - number) next s.seen c
@@ -141,6 +152,24 @@ held_made state disk number maps good room small synced selects = record {
         blocks = λ n one used. ap (λ (x : Image). block_at x n) same;
       });
 }
+
+-- the next maps are on the disk
+pub held_next : {D : Type 0} (state : D → DiskState) (v : Held D) → IsHeld state v → v.up ≡ true → (next : Maps) → IsRoot next.root → (bytes : List ℕ) → bytes ≡ spelling next.root
+    → next.root.physical ≡ v.maps.root.physical → (later : D) → Spares BehindSlots (state v.disk) (state later) → (number : ℕ) → number ≡ 1 - v.number → IsCommitted (state v.disk) (state later) number bytes
+    → IsHeld state (record { disk = later; number = number; maps = next; after = v.after; up = v.up })
+held_next state v held up next good bytes is physical later spared number other committed =
+    let none = held.decided up in
+    let told = spared.any_moment.told in
+    let room : 25726976 + 4096 * next.root.physical ≤ (state later).size = rw (physical, spared.any_moment.size) held.room in
+    let small : number < 2 = omega (arith, other) in
+    let made = held_made state later number next good room small committed.synced (λ yes. subst (λ (b : List ℕ). Selects (state later).seen number (Record b)) is (committed.selects (subst IsTrue told yes))) in
+    record {
+      room = room;
+      one_of_two = small;
+      as_large = subst (λ a. IsAsLarge a next.root) (sym none) tt;
+      decided = held.decided;
+      images = λ c may. ⊎_elim (λ shown. inl shown) (λ after. absurd after) (made.images c may);
+    }
 
 -- a restart, and a read after it
 pub restart_steps : (a b c : DiskState) → Steps a b → Steps b c → IsQuiet b c → Steps a c

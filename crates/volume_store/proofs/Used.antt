@@ -1,5 +1,5 @@
 -- How many numbers the maps use.
-use Rattle.std.proofs.Common.{◌≡◌, ◌≢◌, inl, inr, ⊎_elim, ℕ, zero, suc, ◌+◌, ◌-◌, ◌<◌, ◌≤◌, List, [], ◌∷◌, length, get_or, Bool, true, false, not, ◌||◌, cond, eqb, Option, None, Some, IfNone, OnSome, refl, sym, ◌∙◌, ap, arith}
+use Rattle.std.proofs.Common.{◌≡◌, ◌≢◌, inl, inr, ⊎_elim, ℕ, zero, suc, ◌+◌, ◌-◌, ◌<◌, ◌≤◌, List, [], ◌∷◌, length, get_or, Bool, true, false, not, ◌||◌, cond, eqb, Option, None, Some, IfNone, OnSome, IfSome, refl, sym, ◌∙◌, ap, arith}
 use Rattle.std.proofs.lemmas.Bool.{cases_eq, cases_lt, cases_Bool, false≢true}
 use Rattle.std.proofs.lemmas.Bool.Decides.{nat_tests, eqb_tells}
 use Rattle.std.proofs.lemmas.List.Folds.{list_any-append}
@@ -10,7 +10,7 @@ use Rattle.sm_bits.specs.Places.{has, size, IsNextFrom}
 use Rattle.sm_bits.proofs.OnesBelow.{passing, passing-same, passing-add, passing_map}
 use Rattle.sm_defs.specs.Image.{stands, distinct}
 use Rattle.sm_defs.specs.Words.{Among}
-use Rattle.volume_store.specs.Maps.{uses, AreMapsOf, AreFree}
+use Rattle.volume_store.specs.Maps.{Maps, uses, all_maps, AreMapsOf, AreFree, IsLeastFree}
 use Rattle.std.proofs.lemmas.List.{get_or_past}
 use Rattle.volume_store.proofs.PutLemmas.{where_it_stands}
 use Rattle.volume_store.proofs.Sound.{among_append}
@@ -165,3 +165,26 @@ module _ (logical physical : ℕ) (maps : List (List ℕ)) (space : List Bool) (
     | inl less ↦ less
     | inr past ↦ absurd (false≢true (sym (get_or_past space n false past) ∙ is.is_in))
   ]) is.is_in
+
+  pub least_found : (maps' : Maps) → maps'.root.physical ≡ physical → all_maps maps'.root maps'.active ≡ maps → (r : Option ℕ) → IsNextFrom space 1 r → IfSome r (IsLeastFree maps')
+  least_found maps' same all None none = tt
+  least_found maps' same all (Some n) is =
+      let inside : n < length space = elim (cases_lt n (length space)) [
+        | inl less ↦ less
+        | inr past ↦ absurd (false≢true (sym (get_or_past space n false past) ∙ is.is_in))
+      ] in
+      let within : n ≤ physical = (let l = free.long in omega (arith, l, inside)) in record {
+        from_one = is.from_on;
+        within = rw same within;
+        unused = ap (λ (ms : List (List ℕ)). uses ms n) all ∙ flip (uses maps n) (sym (free.each n is.from_on within) ∙ is.is_in);
+        least = λ m one below.
+            ap (λ (ms : List (List ℕ)). uses ms m) all ∙ flop (uses maps m) (sym (free.each m one (omega (arith, below, within))) ∙ is.least m one below);
+      }
+    where
+      flip : (b : Bool) → not b ≡ true → b ≡ false
+      flip true e = absurd (cc)
+      flip false e = refl
+
+      flop : (b : Bool) → not b ≡ false → b ≡ true
+      flop true e = refl
+      flop false e = absurd (cc)

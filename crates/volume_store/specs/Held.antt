@@ -79,6 +79,11 @@ abbrev pub taken_side : Side → Maps → Option Maps → Option Maps
 taken_side Before maps after = Some maps
 taken_side After maps after = after
 
+-- which record is that side's
+abbrev pub number_of : Side → ℕ → ℕ
+number_of Before number = number
+number_of After number = 1 - number
+
 -- what the image shows of that side
 abbrev pub ShowsSide : Side → ℕ → Maps → Option Maps → Image → Image → Type 0
 ShowsSide Before number maps after d c = Shows number maps.root d c

@@ -1,5 +1,5 @@
 -- The maps of a volume, and which physical numbers they use.
-use Rattle.std.specs.Prelude.{◌≡◌, ℕ, ◌+◌, ◌<◌, ◌≤◌, not, Bool, true, false, List, ◌∷◌, length, slice_index, map}
+use Rattle.std.specs.Prelude.{◌≡◌, ℕ, ◌+◌, ◌<◌, ◌≤◌, not, Bool, true, false, List, [], ◌∷◌, length, slice_index, map}
 use Rattle.std.specs.List.{list_any}
 use Rattle.sm_bits.specs.Places.{has}
 use Rattle.sm_defs.specs.Image.{stands}
@@ -32,10 +32,11 @@ pub record AreMapsOf (logical physical : ℕ) (maps : List (List ℕ)) : Type 0 
   pub within : (x : List ℕ) → Among maps x → (i : ℕ) → slice_index x i ≤ physical
   pub one_place : OnePlace maps
 
--- the marks of the numbers that the maps use
+-- the marks of the numbers that the maps use; 0, the hole, is always marked
 pub record AreUsed (set : List Bool) (physical : ℕ) (maps : List (List ℕ)) : Type 0 where
   pub long : length set ≡ physical + 1
-  pub each : (n : ℕ) → n ≤ physical → has set n ≡ uses maps n
+  pub hole : has set 0 ≡ true
+  pub each : (n : ℕ) → 1 ≤ n → n ≤ physical → has set n ≡ uses maps n
 
 -- the marks of the numbers that no map uses; 0 is a hole and never free
 pub record AreFree (free : List Bool) (physical : ℕ) (maps : List (List ℕ)) : Type 0 where
@@ -48,11 +49,17 @@ pub record Maps : Type 0 where
   pub root : Root
   pub active : List ℕ
 
--- What is kept beside the maps: which numbers the snapshots use, which a restart needs, and which are free.
-pub record AreKept (root : Root) (active : List ℕ) (held kept space : List Bool) : Type 0 where
+-- which numbers the snapshots use, which the stable map does, and which the active one does
+pub record AreMarks (held settled live : List Bool) (root : Root) (active : List ℕ) : Type 0 where
+  pub of_snapshots : AreUsed held root.physical (held_maps root)
+  pub of_stable : AreUsed settled root.physical (root.stable ∷ [])
+  pub of_active : AreUsed live root.physical (active ∷ [])
+
+-- What is kept beside the maps: the marks of each part, which numbers a restart needs, and which are free.
+pub record AreKept (root : Root) (active : List ℕ) (held settled live kept space : List Bool) : Type 0 where
   pub maps : AreMapsOf root.logical root.physical (all_maps root active)
   pub good : IsRoot root
-  pub snapshots : AreUsed held root.physical (held_maps root)
+  pub marks : AreMarks held settled live root active
   pub used : AreUsed kept root.physical (kept_maps root)
   pub free : AreFree space root.physical (all_maps root active)
 

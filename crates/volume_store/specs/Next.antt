@@ -54,3 +54,7 @@ abbrev pub IsReverted : Maps → Ident → Bool → ℕ → Maps → Type 0
 IsReverted m i drop_newer family next =
     (s : RootSnapshot) × (find (λ t. same_ident t.ident i) m.root.snapshots ≡ Some s)
     × (next ≡ reverted m s.map family (cond drop_newer (up_to (λ t. same_ident t.ident i) m.root.snapshots) m.root.snapshots))
+
+-- one snapshot more, with the stable map
+abbrev pub IsWith : Root → Root → Type 0
+IsWith old new = (s : RootSnapshot) × (new.snapshots ≡ old.snapshots ++ s ∷ []) × (s.map ≡ new.stable)

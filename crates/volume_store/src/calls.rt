@@ -159,7 +159,7 @@ fn has_name(snapshots: &[RootSnapshot], name: &[u8]) -> bool
 }
 
 // Whether a snapshot has the identity.
-fn has_snapshot(snapshots: &[RootSnapshot], ident: Ident) -> bool
+pub(crate) fn has_snapshot(snapshots: &[RootSnapshot], ident: Ident) -> bool
     ensures { result ≡ has_snapshot snapshots.now ident }
 {
     snapshots.iter().any(|snapshot| same(snapshot.ident, ident))

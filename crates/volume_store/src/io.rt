@@ -6,8 +6,11 @@ ghost use Rattle.sm_disk.specs.Spared.{Spares};
 ghost use Rattle.volume_store.specs.Held.{Held, Shows, IsOpenBlock, on_disk, fallen, block_at, block_start, bytes_at};
 ghost use Rattle.sm_defs.specs.Image.{hole};
 ghost use Rattle.volume_store.specs.Maps.{IsLeastFree, all_maps, uses};
-ghost use Rattle.volume_store.specs.Refusals.{RefusesOrFails, write_refusal, read_refusal, map_seen, used_of};
+ghost use Rattle.volume_store.specs.Refusals.{RefusesOrFails, write_refusal, read_refusal, map_seen, used_of, has_snapshot};
+ghost use Rattle.sm_defs.specs.Words.{Among};
+ghost use Rattle.sm_root.specs.declared.root.RootSnapshot.{RootSnapshot};
 
+use crate::calls::has_snapshot;
 use crate::faults::VolumeFault;
 use crate::held::Store;
 use sm_base::{Block, Ident, Kind};
@@ -36,6 +39,14 @@ impl<D: Disk> Store<D> {
         ensures { result ≡ used_of self.now.maps }
     {
         self.state.used()
+    }
+
+    /// Whether the volume has a snapshot of the identity.
+    pub fn has_snapshot(&self, ident: Ident) -> bool
+        ensures value { result ≡ has_snapshot self.now.maps.root.snapshots ident }
+        ensures new { result ≡ false → (s : RootSnapshot) → Among self.now.maps.root.snapshots s → ¬ (s.ident ≡ ident) }
+    {
+        has_snapshot(self.state.root().snapshots.as_slice(), ident)
     }
 
     /// Writes a block of the active image, at the least free number: no block in use is overwritten.

@@ -1,15 +1,173 @@
 // Which physical numbers the maps of a root use.
-ghost use Rattle.std.specs.Prelude.{◌≡◌, ◌⊎◌, [], ℕ, ◌+◌, ◌^◌, ◌++◌, ◌<◌, ◌≤◌, ◌||◌, true, length, map, slice_index, slice_set, IfOk};
-ghost use Rattle.sm_bits.specs.Places.{has};
+ghost use Rattle.std.specs.Prelude.{◌≡◌, ◌≢◌, ◌⊎◌, [], ◌∷◌, ℕ, ◌+◌, ◌^◌, ◌++◌, ◌<◌, ◌≤◌, ◌||◌, ◌&&◌, ◌==◌, not, true, false, length, map, slice_index, slice_set, IfOk};
+ghost use Rattle.sm_bits.specs.Places.{has, union_of};
 ghost use Rattle.sm_defs.specs.Image.{stands};
+ghost use Rattle.sm_defs.specs.Limits.{most_physical};
 ghost use Rattle.sm_defs.specs.Words.{Among};
 ghost use Rattle.sm_root.specs.Condition.{IsRoot, map_of};
-ghost use Rattle.volume_store.specs.Maps.{kept_maps, held_maps, AreMapsOf, AreUsed};
+ghost use Rattle.volume_store.specs.Maps.{kept_maps, held_maps, AreMapsOf, AreUsed, AreMarks};
 
 use sm_base::NoMemory;
 use sm_bits::BitMap;
 use sm_root::{Root, RootSnapshot};
 use std::alloc::Global;
+
+/// Which numbers each part of a volume uses, so that a commit need not read the maps for it.
+#[derive(Debug, Drop)]
+pub(crate) struct Marks {
+    // Those of the snapshots.
+    pub(crate) held: BitMap,
+    // Those of the stable map.
+    pub(crate) settled: BitMap,
+    // Those of the active map.
+    pub(crate) live: BitMap,
+}
+
+impl Marks {
+    // The marks of a root whose stable map is the active one.
+    pub(crate) fn restarted(alloc: Global, root: &Root) -> Result<Marks, NoMemory>
+        requires maps { AreMapsOf root.now.logical root.now.physical (kept_maps root.now) }
+        requires good { IsRoot root.now }
+        ensures { IfOk result (λ marks. AreMarks marks.held marks.settled marks.live root.now root.now.stable) }
+    {
+        let held = held_numbers(alloc, root)?;
+        let live = map_numbers(alloc, root.physical, root.stable.as_slice())?;
+        Ok(Marks {
+            held,
+            settled: live.copy(alloc)?,
+            live,
+        })
+    }
+
+    // Equal marks.
+    pub(crate) fn copy(&self, alloc: Global) -> Result<Marks, NoMemory>
+        ensures { IfOk result (λ marks. marks ≡ self.now) }
+    {
+        self.with_held(alloc, self.held.copy(alloc)?)
+    }
+
+    // The marks where the snapshots use these numbers.
+    pub(crate) fn with_held(&self, alloc: Global, held: BitMap) -> Result<Marks, NoMemory>
+        ensures { IfOk result (λ marks. marks ≡ record self.now { held = held }) }
+    {
+        Ok(Marks {
+            held,
+            settled: self.settled.copy(alloc)?,
+            live: self.live.copy(alloc)?,
+        })
+    }
+
+    // The marks where the active map is the stable one too.
+    pub(crate) fn settled(&self, alloc: Global) -> Result<Marks, NoMemory>
+        ensures { IfOk result (λ marks. marks ≡ record self.now { settled = self.now.live }) }
+    {
+        self.settled_with(alloc, self.held.copy(alloc)?)
+    }
+
+    // The same with a snapshot of the active map.
+    pub(crate) fn snapped(&self, alloc: Global) -> Result<Marks, NoMemory>
+        requires { length self.now.live ≡ length self.now.held }
+        ensures { IfOk result (λ marks. marks ≡ record self.now { held = union_of self.now.held self.now.live; settled = self.now.live }) }
+    {
+        self.settled_with(alloc, united(alloc, &self.held, &self.live)?)
+    }
+
+    fn settled_with(&self, alloc: Global, held: BitMap) -> Result<Marks, NoMemory>
+        ensures { IfOk result (λ marks. marks ≡ record { held = held; settled = self.now.live; live = self.now.live }) }
+    {
+        Ok(Marks {
+            held,
+            settled: self.live.copy(alloc)?,
+            live: self.live.copy(alloc)?,
+        })
+    }
+}
+
+// The numbers of two sets.
+pub(crate) fn united(alloc: Global, one: &BitMap, other: &BitMap) -> Result<BitMap, NoMemory>
+    requires { length other.now ≡ length one.now }
+    ensures { IfOk result (λ set. set ≡ union_of one.now other.now) }
+{
+    let mut set = one.copy(alloc)?;
+    set.union(other);
+    Ok(set)
+}
+
+// No numbers, but for the hole.
+fn no_numbers(alloc: Global, physical: u32) -> Result<BitMap, NoMemory>
+    requires { physical ≤ most_physical }
+    ensures { IfOk result (λ set. AreUsed set physical []) }
+{
+    let mut set = BitMap::new(alloc, physical + 1)?;
+    set.set(0);
+    Ok(set)
+}
+
+// The numbers of one map.
+pub(crate) fn map_numbers(alloc: Global, physical: u32, map: &[u32]) -> Result<BitMap, NoMemory>
+    requires room { physical ≤ most_physical }
+    requires inside { (i : ℕ) → slice_index map.now i ≤ physical }
+    ensures { IfOk result (λ set. AreUsed set physical (map.now ∷ [])) }
+{
+    let mut set = no_numbers(alloc, physical)?;
+    mark(&mut set, map, &[]);
+    Ok(set)
+}
+
+// One number goes, if it is none of a hole, and another comes.
+pub(crate) fn exchange(set: &mut BitMap, before: u32, number: u32)
+    requires before { before < length set.old }
+    requires number { number < length set.old }
+    requires some { 1 ≤ number }
+    ensures long { length set.new ≡ length set.old }
+    ensures hole { has set.new 0 ≡ has set.old 0 }
+    ensures comes { has set.new number ≡ true }
+    ensures goes { 1 ≤ before → before ≢ number → has set.new before ≡ false }
+    ensures others { (n : ℕ) → n ≢ before → n ≢ number → has set.new n ≡ has set.old n }
+{
+    if before != 0 {
+        set.clear(before);
+    }
+    set.set(number);
+}
+
+// Takes out a number, if it is none of a hole.
+fn take(set: &mut BitMap, number: u32)
+    requires { number < length set.old }
+    ensures long { length set.new ≡ length set.old }
+    ensures hole { has set.new 0 ≡ has set.old 0 }
+    ensures each { (n : ℕ) → 1 ≤ n → has set.new n ≡ (has set.old n && not (number == n)) }
+{
+    if number != 0 {
+        set.clear(number);
+    }
+}
+
+// Takes out the numbers of a map.
+fn take_all(set: &mut BitMap, map: &[u32])
+    requires { (i : ℕ) → slice_index map.now i < length set.old }
+    ensures long { length set.new ≡ length set.old }
+    ensures hole { has set.new 0 ≡ has set.old 0 }
+    ensures each { (n : ℕ) → 1 ≤ n → has set.new n ≡ (has set.old n && not (stands n map.now)) }
+{
+    for number in map {
+        take(set, *number);
+    }
+}
+
+// Marks the numbers of a map in place of those of another.
+pub(crate) fn remark(set: &mut BitMap, before: &[u32], map: &[u32])
+    requires before { (i : ℕ) → slice_index before.now i < length set.old }
+    requires inside { (i : ℕ) → slice_index map.now i < length set.old }
+    requires hole { has set.old 0 ≡ true }
+    requires marked { (n : ℕ) → 1 ≤ n → n < length set.old → has set.old n ≡ stands n before.now }
+    ensures long { length set.new ≡ length set.old }
+    ensures hole { has set.new 0 ≡ true }
+    ensures each { (n : ℕ) → 1 ≤ n → n < length set.old → has set.new n ≡ stands n map.now }
+{
+    take_all(set, before);
+    mark(set, map, &[]);
+}
 
 // Adds a number. One that is there is only looked at: a store would hold up the next number of its word.
 fn put(set: &mut BitMap, number: u32)
@@ -98,7 +256,7 @@ pub(crate) fn held_numbers(alloc: Global, root: &Root) -> Result<BitMap, NoMemor
     requires good { IsRoot root.now }
     ensures { IfOk result (λ set. AreUsed set root.now.physical (held_maps root.now)) }
 {
-    let mut set = BitMap::new(alloc, root.physical + 1)?;
+    let mut set = no_numbers(alloc, root.physical)?;
     let snapshots = root.snapshots.as_slice();
     for at in 0..snapshots.len() {
         mark(

@@ -7,12 +7,13 @@ ghost use Rattle.volume_store.specs.Opened.{empty_maps};
 ghost use Rattle.volume_store.specs.Snapshot.{snapshot_of};
 ghost use Rattle.sm_defs.specs.Words.{Among, same_ident, has_ident, up_to, KeysDiffer};
 ghost use Rattle.sm_root.specs.Condition.{IsRoot, IsSnapshot, ident_of, map_of};
-ghost use Rattle.volume_store.specs.Maps.{all_maps, AreMapsOf};
-ghost use Rattle.volume_store.specs.Next.{map_maps, settled, snapped, next_after, staying, without, adopted, writable, reverted, IsReverted};
+ghost use Rattle.volume_store.specs.Maps.{all_maps, kept_maps, AreMapsOf, AreMarks};
+ghost use Rattle.volume_store.specs.Next.{map_maps, settled, snapped, next_after, staying, without, adopted, writable, reverted, IsReverted, IsWith};
 ghost use Rattle.volume_store.specs.Refusals.{revert_refusal};
 
 use crate::faults::VolumeFault;
 use crate::head::Head;
+use crate::marks::{Marks, held_numbers, map_numbers, united};
 use crate::state::{State, snapshot_of_ident};
 use sm_base::{Ident, Kind, NoMemory, VolNo};
 use sm_root::{BlockMap, Root, RootSnapshot, Snapshots};
@@ -106,12 +107,8 @@ impl State {
     {
         let snapshots = self.root.snapshots.copy(alloc)?.into_vec();
         let root = self.root_with(self.active_copy(alloc)?, snapshots);
-        self.following(
-            alloc,
-            root,
-            self.active_copy(alloc)?,
-            self.held_copy(alloc)?,
-        )
+        let marks = self.marks.settled(alloc)?;
+        self.following(alloc, root, self.active_copy(alloc)?, marks)
     }
 
     // Clients may write it.
@@ -120,12 +117,8 @@ impl State {
     {
         let mut root = self.root.copy(alloc)?;
         root.kind = Kind::Rw;
-        self.following(
-            alloc,
-            root,
-            self.active_copy(alloc)?,
-            self.held_copy(alloc)?,
-        )
+        let marks = self.marks.copy(alloc)?;
+        self.following(alloc, root, self.active_copy(alloc)?, marks)
     }
 
     // Without these snapshots.
@@ -135,7 +128,9 @@ impl State {
         let list = staying_of(alloc, drops, self.root.snapshots.as_slice())?;
         let stable = self.root.stable.copy(alloc)?.into_vec();
         let root = self.root_with(stable, list);
-        self.remade(alloc, root, self.active_copy(alloc)?)
+        let held = held_numbers(alloc, &root)?;
+        let marks = self.marks.with_held(alloc, held)?;
+        self.following(alloc, root, self.active_copy(alloc)?, marks)
     }
 
     // A consistency point, and a snapshot of it behind the others.
@@ -151,8 +146,8 @@ impl State {
         list.push(head.with_map(self.active_copy(alloc)?))?;
         let mut root = self.root_with(self.active_copy(alloc)?, list);
         root.next = next;
-        let held = self.held_with_active(alloc)?;
-        self.following(alloc, root, self.active_copy(alloc)?, held)
+        let marks = self.marks.snapped(alloc)?;
+        self.following(alloc, root, self.active_copy(alloc)?, marks)
     }
 
     // Another map, which a new snapshot has, and without the snapshots that are among these.
@@ -183,7 +178,29 @@ impl State {
             stable: BlockMap::from_vec(map),
             snapshots: Snapshots::from_vec(list),
         };
-        self.remade(alloc, root, active)
+        let marks = self.adopted_marks(alloc, &root, drops)?;
+        self.following(alloc, root, active, marks)
+    }
+
+    // The marks of a root with another map, which a snapshot behind the others has. Where none of those goes,
+    // that map alone is marked.
+    fn adopted_marks(&self, alloc: Global, root: &Root, drops: &[Ident]) -> Result<Marks, NoMemory>
+        requires maps { AreMapsOf root.now.logical root.now.physical (kept_maps root.now) }
+        requires good { IsRoot root.now }
+        requires same { root.now.physical ≡ self.now.root.physical }
+        requires behind { drops.now ≡ [] → IsWith self.now.root root.now }
+        ensures { IfOk result (λ marks. AreMarks marks.held marks.settled marks.live root.now root.now.stable) }
+    {
+        if !drops.is_empty() {
+            return Marks::restarted(alloc, root);
+        }
+        let live = map_numbers(alloc, root.physical, root.stable.as_slice())?;
+        let held = united(alloc, &self.marks.held, &live)?;
+        Ok(Marks {
+            held,
+            settled: live.copy(alloc)?,
+            live,
+        })
     }
 
     // A destination with the map of the snapshot of this identity, and with all snapshots or with those

@@ -1,7 +1,7 @@
 // The restart of a volume's disk.
 ghost use Rattle.std.specs.Prelude.{◌≡◌, ◌-◌, ◌<◌, true, false, Some, None, OnOk, OnErr, IfOk, IsTrue};
 ghost use Rattle.sm_disk.specs.Disk.{Steps, IsSynced, IsCounted};
-ghost use Rattle.volume_store.specs.Held.{Held, fallen, restarted, taken_side, ShowsSide};
+ghost use Rattle.volume_store.specs.Held.{Held, fallen, restarted, taken_side, number_of, ShowsSide};
 ghost use Rattle.volume_store.specs.Maps.{Maps};
 
 use crate::faults::VolumeFault;
@@ -37,6 +37,7 @@ impl<D: Disk> Store<D> {
             × (self.new ≡ record { disk = self.new.disk; number = self.new.number; maps = restarted maps; after = None; up = true })) }
         ensures side { IfOk result (λ side. IsTrue (D.state self.old.disk).told →
             ShowsSide side self.old.number self.old.maps self.old.after (D.state self.old.disk).seen (D.state self.new.disk).seen) }
+        ensures selected { IfOk result (λ side. IsTrue (D.state self.old.disk).told → self.new.number ≡ number_of side self.old.number) }
         ensures fault { OnErr result (self.new ≡ fallen self.old self.new.disk) }
         ensures refused { OnErr result (result ≡ Err VolumeFault.DiskFault) }
         ensures counted { OnErr result (IsCounted (D.state self.old.disk) (D.state self.new.disk)) }

@@ -6,11 +6,11 @@ ghost use Rattle.sm_defs.specs.Limits.{most_snapshots, last_number};
 ghost use Rattle.volume_store.specs.Refusals.{is_full, used_of, read_refusal, map_seen, has_snapshot};
 ghost use Rattle.volume_store.specs.Next.{next_after};
 ghost use Rattle.sm_root.specs.Condition.{IsRoot};
-ghost use Rattle.volume_store.specs.Maps.{Maps, all_maps, kept_maps, held_maps, AreMapsOf, AreUsed, uses, IsLeastFree};
+ghost use Rattle.volume_store.specs.Maps.{Maps, all_maps, AreMapsOf, AreMarks, uses, IsLeastFree};
 
 use crate::faults::VolumeFault;
 use crate::io::View;
-use crate::marks::{held_numbers, last_map, mark};
+use crate::marks::{Marks, exchange, remark, united};
 use crate::next::same;
 use sm_base::{Ident, NoMemory};
 use sm_bits::BitMap;
@@ -27,8 +27,7 @@ const LAST_NUMBER: u64 = 1 << 62;
 pub(crate) struct State {
     pub(crate) root: Root,
     pub(crate) active: Vec<u32>,
-    // What the snapshots use: a commit that drops none need not read them for it.
-    pub(crate) held: BitMap,
+    pub(crate) marks: Marks,
     // What the stable map and the snapshots use: a restart needs it.
     pub(crate) kept: BitMap,
     pub(crate) space: Space,
@@ -41,73 +40,58 @@ impl Model for State {
 
     ghost view = { λ s. record { root = s.root; active = s.active.items } };
 
-    ghost invariant = { λ s. AreKept s.root s.active.items s.held s.kept s.space };
+    ghost invariant = { λ s. AreKept s.root s.active.items s.marks.held s.marks.settled s.marks.live s.kept s.space };
 }
 
 impl State {
-    /// A root with this active map.
+    /// A root whose stable map is the active one.
     pub(crate) fn new(alloc: Global, root: Root, active: Vec<u32>) -> Result<State, NoMemory>
         requires maps { AreMapsOf root.logical root.physical (all_maps root active.items) }
         requires good { IsRoot root }
+        requires settled { active.items ≡ root.stable }
         ensures { IfOk result (λ state. state ≡ record { root = root; active = active.items }) }
     {
-        let held = held_numbers(alloc, &root)?;
-        let space = Space::new(alloc, root.physical, &held)?;
-        State::with_held(alloc, root, active, held, space)
-    }
-
-    // A root with this active map, where it is known what the snapshots use. Of the space only the size counts.
-    fn with_held(
-        alloc: Global,
-        root: Root,
-        active: Vec<u32>,
-        held: BitMap,
-        space: Space,
-    ) -> Result<State, NoMemory>
-        requires maps { AreMapsOf root.logical root.physical (all_maps root active.items) }
-        requires good { IsRoot root }
-        requires held { AreUsed held root.physical (held_maps root) }
-        requires size { length space ≡ root.physical + 1 }
-        ensures { IfOk result (λ state. state ≡ record { root = root; active = active.items }) }
-    {
-        let mut kept = held.copy(alloc)?;
-        mark(
-            &mut kept,
-            root.stable.as_slice(),
-            last_map(root.snapshots.as_slice()),
-        );
-        let mut used = kept.copy(alloc)?;
-        mark(&mut used, &active, root.stable.as_slice());
-        let mut space = space;
-        space.reset(&used);
+        let marks = Marks::restarted(alloc, &root)?;
+        let kept = united(alloc, &marks.held, &marks.settled)?;
+        let used = united(alloc, &kept, &marks.live)?;
+        let space = Space::new(alloc, root.physical, &used)?;
         Ok(State {
             root,
             active,
-            held,
+            marks,
             kept,
             space,
         })
     }
 
-    // The state of another root of the same disk, where it is known what its snapshots use.
+    // The state of another root of the same disk, where it is known what its maps use.
     pub(crate) fn following(
         &self,
         alloc: Global,
         root: Root,
         active: Vec<u32>,
-        held: BitMap,
+        marks: Marks,
     ) -> Result<State, NoMemory>
         requires maps { AreMapsOf root.logical root.physical (all_maps root active.items) }
         requires good { IsRoot root }
-        requires held { AreUsed held root.physical (held_maps root) }
+        requires marks { AreMarks marks.held marks.settled marks.live root active.items }
         requires same { root.physical ≡ self.now.root.physical }
         ensures { IfOk result (λ state. state ≡ record { root = root; active = active.items }) }
     {
-        let space = self.space.copy(alloc)?;
-        State::with_held(alloc, root, active, held, space)
+        let kept = united(alloc, &marks.held, &marks.settled)?;
+        let used = united(alloc, &kept, &marks.live)?;
+        let mut space = self.space.copy(alloc)?;
+        space.reset(&used);
+        Ok(State {
+            root,
+            active,
+            marks,
+            kept,
+            space,
+        })
     }
 
-    // The same where snapshots go or another map comes.
+    // The same where another map comes, which is the stable and the active one.
     pub(crate) fn remade(
         &self,
         alloc: Global,
@@ -116,31 +100,12 @@ impl State {
     ) -> Result<State, NoMemory>
         requires maps { AreMapsOf root.logical root.physical (all_maps root active.items) }
         requires good { IsRoot root }
+        requires settled { active.items ≡ root.stable }
         requires same { root.physical ≡ self.now.root.physical }
         ensures { IfOk result (λ state. state ≡ record { root = root; active = active.items }) }
     {
-        let held = held_numbers(alloc, &root)?;
-        self.following(alloc, root, active, held)
-    }
-
-    // A copy of what the snapshots use.
-    pub(crate) fn held_copy(&self, alloc: Global) -> Result<BitMap, NoMemory>
-        ensures { IfOk result (λ held. AreUsed held self.now.root.physical (held_maps self.now.root)) }
-    {
-        Ok(self.held.copy(alloc)?)
-    }
-
-    // What the snapshots use, and one more of the active map.
-    pub(crate) fn held_with_active(&self, alloc: Global) -> Result<BitMap, NoMemory>
-        ensures { IfOk result (λ held. AreUsed held self.now.root.physical (self.now.active ∷ held_maps self.now.root)) }
-    {
-        let mut held = self.held.copy(alloc)?;
-        mark(
-            &mut held,
-            &self.active,
-            last_map(self.root.snapshots.as_slice()),
-        );
-        Ok(held)
+        let marks = Marks::restarted(alloc, &root)?;
+        self.following(alloc, root, active, marks)
     }
 
     pub(crate) fn root(&self) -> &Root
@@ -160,14 +125,6 @@ impl State {
         let next = self.root.next;
         self.root.snapshots.as_slice().len() == 255
             || (ident.seq == 2 * next && next == LAST_NUMBER)
-    }
-
-    /// The number at a place of the active map.
-    pub(crate) fn active_at(&self, at: u32) -> u32
-        requires { at < length self.now.active }
-        ensures { result ≡ slice_index self.now.active at }
-    {
-        self.active[at as usize]
     }
 
     // A number that a map uses is one of the disk's blocks.
@@ -220,6 +177,7 @@ impl State {
         let before = self.active[at as usize];
         let _ = self.space.take();
         self.active[at as usize] = number;
+        exchange(&mut self.marks.live, before, number);
         if before != 0 && !self.kept.test(before) {
             self.space.give(before);
         }
@@ -229,7 +187,9 @@ impl State {
     pub(crate) fn restart(&mut self)
         ensures { self.new ≡ record self.old { active = self.old.root.stable } }
     {
-        self.active.copy_from_slice(self.root.stable.as_slice());
+        let stable = self.root.stable.as_slice();
+        remark(&mut self.marks.live, &self.active, stable);
+        self.active.copy_from_slice(stable);
         self.space.reset(&self.kept);
     }
 }

@@ -3,7 +3,6 @@ use Rattle.sm_defs.specs.Image.{stands}
 use Rattle.sm_defs.specs.Words.{Among}
 use Rattle.sm_root.specs.declared.root.RootSnapshot.{RootSnapshot}
 use Rattle.sm_root.specs.Condition.{map_of}
-use Rattle.volume_store.specs.Maps.{AreUsed}
 use Rattle.volume_store.proofs.MapLemmas.{among_get, among_map, among_map_take, known_beside, uses_next}
 use Rattle.volume_store.proofs.marks.held_numbers.Goals as goal
 
@@ -22,8 +21,7 @@ pub mark-requires-clause-known : goal.mark-requires-clause-known
 mark-requires-clause-known c =
     let snapshots = c.args.root.now.snapshots in
     let at = c.loop-at.at in
-    let are : AreUsed c.loop-at.set c.args.root.now.physical (map map_of (take at snapshots)) = record { long = c.loop-at.invariant.long; each = c.loop-at.invariant.each } in
-    known_beside c.loop-at.set c.args.root.now.physical (map map_of (take at snapshots)) c.last_map.result.now are
+    known_beside c.loop-at.set c.args.root.now.physical (map map_of (take at snapshots)) c.last_map.result.now c.loop-at.invariant
     (subst (λ (l : List RootSnapshot). (c.last_map.result.now ≡ []) ⊎ Among (map map_of (take at l)) c.last_map.result.now) c.as_slice-snapshots.ensures c.last_map.ensures)
     (λ y is i. c.requires.maps.within y (inr (among_map_take at snapshots y is)) i)
 
@@ -36,7 +34,8 @@ loop-at-preserved c =
     c.as_slice.ensures ∙ ap (λ (l : List RootSnapshot). (get_or l at c.index-snapshots-at.result).map) c.as_slice-snapshots.ensures in
     record {
       long = c.mark.ensures.long ∙ c.loop-at.invariant.long;
-      each = λ n within.
-          c.mark.ensures.each n ∙ ap₂ (λ a b. a || b) (c.loop-at.invariant.each n within) (ap (stands n) is)
+      hole = c.mark.ensures.each 0 ∙ ap (λ b. b || stands 0 c.as_slice.result.now) c.loop-at.invariant.hole;
+      each = λ n some within.
+          c.mark.ensures.each n ∙ ap₂ (λ a b. a || b) (c.loop-at.invariant.each n some within) (ap (stands n) is)
           ∙ uses_next snapshots at c.index-snapshots-at.result n less;
     }

@@ -9,7 +9,7 @@ pub returns-clause-ok : goal.returns-clause-ok
 returns-clause-ok g c =
     let state = g.D.Disk.state in
     subst (λ (v : Mounted _). IfOk c.restart.result (λ side. IsRestarted state v side (mounted state c.restart.new.self))) c.self.view_is
-    (restart_ok state c.self.inside.store c.restart.new.self c.told.ensures.held c.restart.result c.restart.ensures.ok c.restart.ensures.side)
+    (restart_ok state c.self.inside.store c.restart.new.self c.told.ensures.held c.restart.result c.restart.ensures.ok c.restart.ensures.side c.restart.ensures.selected)
 
 pub returns-clause-side : goal.returns-clause-side
 returns-clause-side g c =

@@ -5,7 +5,7 @@ use Rattle.sm_root.specs.Spelling.{spelling}
 use Rattle.volume_store.specs.Maps.{Maps}
 use Rattle.volume_store.specs.Held.{Held, Shows}
 use Rattle.volume_store.proofs.Framed.{framed_root}
-use Rattle.volume_store.proofs.Shown.{shows_commit, firm_of, held_failed}
+use Rattle.volume_store.proofs.Shown.{shows_commit, settled_of, firm_of, held_failed, held_next}
 use Rattle.volume_store.proofs.held.Store.commit.Goals as goal
 
 -- the clause, of a view
@@ -38,3 +38,16 @@ invariant_of-self-in-Err g c =
     held_failed g.D.Disk.state v c.self.invariant up c.args.next c.requires.good c.deref.result.now (c.deref.ensures.value ∙ c.in_ok-bytes.ensures.spelled ∙ ap spelling c.root.ensures.value)
     (c.requires.logical ∙ sym (ap (λ w. w.maps.root.logical) c.self.view_is)) (c.requires.physical ∙ sym (ap (λ w. w.maps.root.physical) c.self.view_is)) (c.requires.numbered ∙ sym (ap (λ w. w.maps.root.number) c.self.view_is))
     c.commit.new.disk c.commit.ensures.spared c.commit.ensures.images c.commit.new.self c.in-Err.ensures.same_slot
+
+pub commit-requires-clause-settled : goal.commit-requires-clause-settled
+commit-requires-clause-settled g c =
+    let v : Held _ = record { disk = c.self.inside.disk; number = c.self.inside.slots; maps = c.self.inside.state; after = c.self.inside.after; up = c.self.inside.up } in
+    let up : v.up ≡ true = ap (λ w. w.up) c.self.view_is ∙ c.requires.up in
+    settled_of (g.D.Disk.state v.disk) v.number v.maps.root (firm_of g.D.Disk.state v c.self.invariant up)
+
+pub invariant_of-self : goal.invariant_of-self
+invariant_of-self g c =
+    let v : Held _ = record { disk = c.self.inside.disk; number = c.self.inside.slots; maps = c.self.inside.state; after = c.self.inside.after; up = c.self.inside.up } in
+    let up : v.up ≡ true = ap (λ w. w.up) c.self.view_is ∙ c.requires.up in
+    held_next g.D.Disk.state v c.self.invariant up c.args.next c.requires.good c.deref.result.now (c.deref.ensures.value ∙ c.in_ok-bytes.ensures.spelled ∙ ap spelling c.root.ensures.value)
+    (c.requires.physical ∙ sym (ap (λ w. w.maps.root.physical) c.self.view_is)) c.commit.new.disk c.commit.ensures.spared c.commit.new.self c.in-Ok.ensures.other c.in-Ok.ensures.committed

@@ -2,10 +2,11 @@ use Rattle.std.proofs.Common.{◌≡◌, List, ℕ, [], ◌∷◌, ◌++◌, sym
 use Rattle.sm_root.specs.declared.root.Root.{Root}
 use Rattle.sm_root.specs.declared.root.RootSnapshot.{RootSnapshot}
 use Rattle.sm_root.specs.Condition.{IsRoot}
-use Rattle.volume_store.specs.Maps.{Maps, AreMapsOf, AreUsed, all_maps, held_maps}
+use Rattle.volume_store.specs.Maps.{Maps, AreMapsOf, AreMarks, all_maps}
 use Rattle.volume_store.specs.Next.{snapped, next_after}
 use Rattle.volume_store.specs.Snapshot.{snapshot_of}
-use Rattle.volume_store.proofs.MapLemmas.{used_same, uses_behind}
+use Rattle.sm_bits.specs.Places.{union_of}
+use Rattle.volume_store.proofs.MarkLemmas.{marks_moved, snapped_marks}
 use Rattle.volume_store.proofs.Sound.{maps_snapped, good_snapped, moved_maps, next_counted, head_fits}
 use Rattle.volume_store.proofs.state.State.snapped.Goals as goal
 
@@ -42,8 +43,8 @@ following-requires-clause-good c =
     subst IsRoot (sym is)
     (good_snapped m good maps s refl (head_fits c.args.head c.told.ensures m.active m.root.logical (maps.long m.active (inl refl))) c.requires.new c.requires.room (next_counted m good c.args.head.ident c.requires.counted))
 
-pub following-requires-clause-held : goal.following-requires-clause-held
-following-requires-clause-held c =
+pub following-requires-clause-marks : goal.following-requires-clause-marks
+following-requires-clause-marks c =
     let m = c.args.self.now in
     let s = snapshot_of c.args.head m.active in
     let next : c.next_after_of-next.result ≡ next_after m.root c.args.head.ident = c.next_after_of-next.ensures ∙ ap (λ (w : Maps). next_after w.root c.args.head.ident) c.self.view_is in
@@ -52,5 +53,8 @@ following-requires-clause-held c =
     let all = c.in_ok-push.ensures.items ∙ ap₂ (λ (xs : List RootSnapshot) (x : RootSnapshot). xs ++ x ∷ []) list one in
     let is : remake c.root_with-root.result c.next_after_of-next.result ≡ (snapped m s).root =
     ap₂ remake (c.root_with-root.ensures ∙ ap₂ (λ (xs : List ℕ) (l : List RootSnapshot). (let r : Root = record m.root { stable = xs; snapshots = l } in r)) c.in_ok-active_copy-2.ensures all) next in
-    subst (λ (r : Root). AreUsed c.in_ok-held.held r.physical (held_maps r)) (sym is)
-    (used_same c.in_ok-held.held m.root.physical (s.map ∷ held_maps m.root) (held_maps (snapped m s).root) c.in_ok-held.ensures (uses_behind m.root.snapshots s))
+    let marks : AreMarks c.self.inside.marks.held c.self.inside.marks.settled c.self.inside.marks.live m.root m.active =
+    subst (λ (w : Maps). AreMarks c.self.inside.marks.held c.self.inside.marks.settled c.self.inside.marks.live w.root w.active) c.self.view_is c.self.invariant.marks in
+    marks_moved c.in_ok-marks.marks (record { held = union_of c.self.inside.marks.held c.self.inside.marks.live; settled = c.self.inside.marks.live; live = c.self.inside.marks.live })
+    (remake c.root_with-root.result c.next_after_of-next.result) (snapped m s).root c.in_ok-active_copy-3.field-0.items m.active c.in_ok-marks.ensures is c.in_ok-active_copy-3.ensures
+    (snapped_marks c.self.inside.marks.held c.self.inside.marks.settled c.self.inside.marks.live m marks s refl)
