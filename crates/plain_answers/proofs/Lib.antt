@@ -1,6 +1,1 @@
-pub mod Begun
-pub mod Holding
-pub mod Onward
 pub mod Replied
-pub mod Reverting
-pub mod Whether

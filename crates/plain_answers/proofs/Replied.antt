@@ -4,7 +4,7 @@ use Rattle.sm_model.specs.declared.reply.Reply.{Reply}
 use Rattle.sm_model.specs.declared.reply.Reply.TheVariants as replies
 use Rattle.sm_defs.specs.World.{Up}
 use Rattle.sm_model.specs.Answers.{Answer}
-use Rattle.plain_answers.specs.Answering.{IsAnswered, Answers, IsAnswer, IsReplied}
+use Rattle.plain_volumes.specs.Answering.{IsAnswered, Answers, IsAnswer, IsReplied}
 
 is_answered : (old new : Up) (a : Answer) (reply : Reply) → Answers old a reply new → IsAnswered old a reply new
 is_answered old new a (replies.Refused refusal) h = rw h.0 (refl, h.1)

@@ -4,13 +4,13 @@ ghost use Rattle.sm_defs.specs.World.{volume_at, no_relation};
 ghost use Rattle.sm_model.specs.Answers.{volno};
 ghost use Rattle.sm_model.specs.OfReport as model;
 ghost use Rattle.plain_world.specs.Finding.{IsFound};
-ghost use Rattle.plain_answers.specs.Answering.{Answers};
+ghost use Rattle.plain_volumes.specs.Answering.{Answers};
 
 use crate::lines::{
     active_line, listed_line, policy_line, relation_line, snapshot_line, volume_line, volume_of,
 };
-use crate::pieces::{place_of, refuse_path, small};
-use crate::targets::relation;
+use plain_volumes::{place_of, refuse_path, small};
+use plain_transfers::relation;
 use plain_machine::PlainSnapshot;
 use plain_world::{PlainFault, PlainVolume, PlainWorld, snapshots_at};
 use sm_base::{NoMemory, Path, RelNo, VolNo};

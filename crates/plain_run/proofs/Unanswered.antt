@@ -1,10 +1,13 @@
 -- Which events have no answer of their own.
-use Rattle.std.proofs.Common.{◌≡◌, Option, None, refl}
+use Rattle.std.proofs.Common.{◌≡◌, ℕ, Option, Some, None}
 use Rattle.sm_model.specs.declared.event.Event.{Event}
 use Rattle.sm_model.specs.declared.event.Event.TheVariants as events
 use Rattle.sm_defs.specs.World.{Up}
+use Rattle.sm_model.specs.declared.reply.Reply.{Reply}
+use Rattle.sm_model.specs.Answers.{Answer}
 use Rattle.sm_model.specs.Answer.{answer}
-use Rattle.plain_run.specs.Acting.{IsUnanswered}
+use Rattle.plain_volumes.specs.Answering.{IsReplied}
+use Rattle.plain_run.specs.Acting.{IsUnanswered, IsReached, IsActed}
 
 -- without an answer of its own an event is a step or a restart
 pub unanswered : (w : Up) (e : Event) → answer w e ≡ None → IsUnanswered e
@@ -38,3 +41,14 @@ unanswered w (events.Digest volume place) e = absurd (cc)
 unanswered w (events.RelationLine relation) e = absurd (cc)
 unanswered w (events.Work shown) e = tt
 unanswered w events.Restart e = tt
+
+reached : (w : Up) (o : Option Answer) (reply : Reply) (new : Up) → IsReplied w o (Some reply) new → IsReached w o reply new
+reached w None reply new h = absurd (cc)
+reached w (Some a) reply new h = h
+
+-- an event that has an answer did what that says
+pub replied : (w : Up) (actor : ℕ) (e : Event) (reply : Reply) (new : Up) → IsReplied w (answer w e) (Some reply) new → IsActed w actor e reply new
+unfolding answer IsActed
+replied w actor (events.Work shown) reply new h = absurd (cc)
+replied w actor events.Restart reply new h = absurd (cc)
+replied w actor e reply new h = reached w (answer w e) reply new h

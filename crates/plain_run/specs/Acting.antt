@@ -13,7 +13,7 @@ use Rattle.sm_model.specs.Opened.{opened}
 use Rattle.sm_model.specs.Steps.{Effect}
 use Rattle.sm_model.specs.Asked.{Asked}
 use Rattle.plain_run.specs.declared.asked.PlainAsked.{PlainAsked}
-use Rattle.plain_answers.specs.Answering.{IsAnswered}
+use Rattle.plain_volumes.specs.Answering.{IsAnswered}
 
 -- the event has an answer, and this is it
 abbrev pub IsReached : Up → Option Answer → Reply → Up → Type 0

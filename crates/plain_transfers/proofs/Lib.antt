@@ -1,0 +1,5 @@
+pub mod Begun
+pub mod Holding
+pub mod Onward
+pub mod Reverting
+pub mod Whether
