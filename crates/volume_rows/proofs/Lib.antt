@@ -1,3 +1,2 @@
-pub mod HasKept
+pub mod StableStands
 pub mod PairFits
-pub mod Ready

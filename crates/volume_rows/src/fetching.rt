@@ -1,14 +1,13 @@
 // Blocks that are read by their number.
 ghost use Rattle.std.specs.Prelude.{◌≡◌, true, OnOk};
-ghost use Rattle.std.specs.List.{list_any};
 ghost use Rattle.sm_defs.specs.Image.{stands};
 ghost use Rattle.sm_defs.specs.Volume.{tags_of};
 
 use crate::table::destination;
-use crate::tests::{fill_of, full, put_and_settle, small};
 use sm_memdisk::MemDisk;
 use sm_volume::Volume;
 use std::test::Fail;
+use volume_tools::{fill_of, full, put_and_settle, small};
 
 fn has_number(numbers: &[u32], number: u32) -> bool
     ensures { result ≡ stands number numbers.now }

@@ -1,15 +1,9 @@
-//! Tests of volumes over disks in memory.
+//! Tests of volumes over disks in memory: calls against plain lists, and blocks that are fetched.
 #![tactic(auto)]
 
 #[cfg(test)]
 mod fetching;
 #[cfg(test)]
-mod listed;
-#[cfg(test)]
 mod plain;
 #[cfg(test)]
 mod table;
-#[cfg(test)]
-mod tests;
-#[cfg(test)]
-mod torn;

@@ -1,19 +1,17 @@
 // A volume against the plain definitions, call after call.
 ghost use Rattle.std.specs.Prelude.{◌≡◌, ◌≤◌, true, [], Err, OnOk, IfOk};
-ghost use Rattle.std.specs.List.{list_any};
-ghost use Rattle.sm_defs.specs.Volume.{has, new_volume};
-ghost use Rattle.sm_defs.specs.Words.{same_ident};
+ghost use Rattle.sm_defs.specs.Volume.{new_volume};
 ghost use Rattle.volume_store.specs.declared.faults.VolumeFault.{VolumeFault};
 
 use crate::plain::{Call, Kept, Plain};
-use crate::tests::{full, is_full, opened};
 use sm_base::{Ident, Kind, SnapName, VolNo};
 use sm_memdisk::MemDisk;
-use sm_root::{Root, RootSnapshot};
+use sm_root::Root;
 use sm_volume::{Head, View, Volume, VolumeFault};
 use std::alloc::Global;
 use std::process::Abort;
 use std::test::Fail;
+use volume_tools::{full, is_full, opened, snapshot};
 
 // The length of a disk of six blocks.
 const SIX_BLOCKS: u64 = 25_751_552;
@@ -110,41 +108,6 @@ const AFTER_OPENING: [Row; 6] = [
     (Call::MakeWritable, None),
     (Call::Write { at: 1, fill: 9 }, None),
 ];
-
-// Whether a snapshot has the identity.
-fn has_ident(snapshots: &[RootSnapshot], ident: Ident) -> bool
-    ensures { result ≡ list_any (λ s. same_ident s.ident ident) snapshots.now }
-{
-    snapshots.iter().any(|snapshot| {
-        snapshot.ident.origin == ident.origin && snapshot.ident.seq == ident.seq
-    })
-}
-
-// Whether the volume has a snapshot of the identity.
-fn is_taken(volume: &Volume<MemDisk>, ident: Ident) -> bool
-    ensures { result ≡ has volume.now.volume.snapshots ident }
-{
-    has_ident(volume.root().snapshots.as_slice(), ident)
-}
-
-// A snapshot of an identity that is new.
-pub fn snapshot(
-    alloc: Global,
-    volume: &mut Volume<MemDisk>,
-    ident: Ident,
-    name: &[u8],
-) -> Result<(), VolumeFault>
-    requires { volume.old.up ≡ true }
-    ensures { (result ≡ Err VolumeFault.DiskFault → ⊥) → volume.new.up ≡ true }
-{
-    if is_taken(volume, ident) {
-        return Err(VolumeFault::SnapFull);
-    }
-    match SnapName::read(alloc, name) {
-        Ok(name) => volume.snapshot(alloc, ident, name, None, 0, 0),
-        Err(_) => Err(VolumeFault::NoMemory),
-    }
-}
 
 fn call_volume(alloc: Global, volume: &mut Volume<MemDisk>, call: &Call) -> Result<(), VolumeFault>
     requires { volume.old.up ≡ true }

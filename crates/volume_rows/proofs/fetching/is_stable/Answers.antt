@@ -1,6 +1,6 @@
 use Rattle.std.proofs.Common.{◌≡◌, List, ℕ, true, sym, ◌∙◌, ap}
 use Rattle.sm_defs.specs.Image.{stands}
-use Rattle.volume_rows.proofs.HasKept.{stable_stands}
+use Rattle.volume_rows.proofs.StableStands.{stable_stands}
 use Rattle.volume_rows.proofs.fetching.is_stable.Goals as goal
 
 pub returns : goal.returns

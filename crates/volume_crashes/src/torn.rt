@@ -1,12 +1,12 @@
 // A commit that the disk stops, and the restart after it.
 ghost use Rattle.std.specs.Prelude.{◌≡◌, true, IfOk};
 
-use crate::tests::{TWO_BLOCKS, byte_of, created, put, put_and_settle, restart, settle};
 use sm_base::Side;
 use sm_memdisk::{Image, MemDisk};
 use sm_volume::{View, Volume, VolumeFault};
 use std::alloc::Global;
 use std::test::Fail;
+use volume_tools::{TWO_BLOCKS, byte_of, created, put, put_and_settle, restart, settle};
 
 // A disk of two blocks that stops at this call, with this image of what is pending then after a restart.
 fn stopping(alloc: Global, call: u64, image: Image) -> Result<MemDisk, Fail> {

@@ -1,16 +1,7 @@
--- What the record of a volume tells of its snapshots and of its stable image.
+-- What the record of a volume tells of its stable image.
 use Rattle.std.proofs.Common.{◌≡◌, ◌||◌, ◌==◌, ℕ, Bool, true, false, List, [], ◌∷◌, ◌++◌, map, refl, ap, ◌∙◌}
-use Rattle.std.specs.List.{list_any}
-use Rattle.sm_base.specs.declared.numbers.Ident.{Ident}
 use Rattle.sm_defs.specs.Image.{stands, tags}
-use Rattle.sm_defs.specs.Volume.{Snapshot, Volume, has, tags_of}
-use Rattle.sm_defs.specs.Words.{same_ident}
-use Rattle.sm_root.specs.declared.root.RootSnapshot.{RootSnapshot}
-use Rattle.sm_volume.specs.Seen.{kept_snapshot}
-
-pub has_kept : (ss : List Snapshot) (i : Ident) → list_any (λ (s : RootSnapshot). same_ident s.ident i) (map kept_snapshot ss) ≡ has ss i
-has_kept [] i = refl
-has_kept (s ∷ ss) i = ap (λ b. same_ident s.ident i || b) (has_kept ss i)
+use Rattle.sm_defs.specs.Volume.{Volume, tags_of}
 
 or_true : (b : Bool) → (b || true) ≡ true
 or_true true = refl

@@ -1,13 +1,13 @@
 // A list of calls.
 ghost use Rattle.std.specs.Prelude.{◌≡◌, true, OnOk};
-ghost use Rattle.volume_rows.specs.Asked.{AskNothing};
+ghost use Rattle.volume_laws.specs.Assigned.{AskNothing};
 
-use crate::tests::{byte_of, small};
 use sm_memdisk::MemDisk;
 use sm_volume::{View, Volume, VolumeFault};
 use std::alloc::Global;
 use std::test::Fail;
 use volume_laws::{Call, perform_all};
+use volume_tools::{byte_of, small};
 
 // Writes before and after a consistency point, and a restart.
 fn calls() -> [Call; 5]
