@@ -1,5 +1,5 @@
 -- What an answer makes of a reply and of the world after it.
-use Rattle.std.specs.Prelude.{◌≡◌, Ok, Err}
+use Rattle.std.specs.Prelude.{◌≡◌, Option, Some, None, Ok, Err}
 use Rattle.sm_model.specs.declared.reply.Reply.{Reply}
 use Rattle.sm_model.specs.declared.reply.Reply.TheVariants as replies
 use Rattle.sm_defs.specs.World.{Up}
@@ -15,3 +15,14 @@ abbrev pub Answers : Up → Answer → Reply → Up → Type 0
 Answers old answer (replies.Refused refusal) new = (answer ≡ Err refusal) × (new ≡ old)
 Answers old answer (replies.Bytes block) new = answer ≡ Ok (record { reply = bytes block.value.0; world = new })
 Answers old answer reply new = answer ≡ Ok (record { reply = told reply; world = new })
+
+-- an answer comes, and the reply tells it
+abbrev pub IsAnswer : Up → Option Answer → Reply → Up → Type 0
+IsAnswer old None reply new = ⊥
+IsAnswer old (Some answer) reply new = Answers old answer reply new
+
+-- no reply where there is no answer, and else the reply that the answer tells
+abbrev pub IsReplied : Up → Option Answer → Option Reply → Up → Type 0
+IsReplied old None reply new = (reply ≡ None) × (new ≡ old)
+IsReplied old (Some answer) None new = ⊥
+IsReplied old (Some answer) (Some reply) new = IsAnswered old answer reply new

@@ -20,5 +20,5 @@ pub use keeping::{keep_reached, retained};
 pub use landing::vault_landing;
 pub use lists::{has_copy, has_rule_for, is_among, is_same, same_text};
 pub use missing::{mirror_cost, missing_places, missing_tags, vault_cost};
-pub use sending::{candidates, legs};
+pub use sending::{behind, candidates, legs};
 pub use values::{PlainBases, PlainBlock, PlainLegs, PlainSnapshot, PlainSource, copy_image};

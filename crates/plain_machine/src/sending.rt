@@ -15,7 +15,8 @@ use sm_base::{Ident, Kind, Label, NoMemory, PolicyKind};
 use sm_model::{WorldPolicy, WorldRule};
 use std::alloc::Global;
 
-fn behind(snapshots: &[PlainSnapshot], base: Ident) -> &[PlainSnapshot]
+/// The snapshots after the first of the identity.
+pub fn behind(snapshots: &[PlainSnapshot], base: Ident) -> &[PlainSnapshot]
     ensures { result.now ≡ after (λ s. same_ident s.ident base) snapshots.now }
 {
     match snapshots {
@@ -169,7 +170,7 @@ pub fn legs(
     source: &PlainSource,
     destination: &[PlainSnapshot],
 ) -> Result<PlainLegs, NoMemory>
-    requires { transfer < 2 ^ 62 }
+    requires { transfer < 2 ^ 63 }
     ensures { IfOk result (λ sends. sends ≡ legs transfer policy.now base source.now destination.now) }
 {
     let sent = candidates(alloc, base, &source.snapshots, destination)?;

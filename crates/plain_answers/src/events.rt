@@ -1,0 +1,90 @@
+// What each event is answered.
+ghost use Rattle.std.specs.Prelude.{IfOk};
+ghost use Rattle.sm_model.specs.Answer.{answer};
+ghost use Rattle.plain_answers.specs.Answering.{IsReplied, IsAnswer};
+
+use crate::policies::{add_rule, create_policy, set_clock};
+use crate::relations::{break_off, delete, relate, release, set_quiesced};
+use crate::reports::{
+    head, of_image, of_relation, of_volume, show_policies, show_relations, show_snapshots,
+    show_volumes,
+};
+use crate::transfers::{abort, initialize, resync, update};
+use crate::volumes::{cp, create_volume, read, snap, unsnap, write};
+use plain_world::{PlainFault, PlainWorld};
+use sm_model::{Event, Reply};
+use std::alloc::Global;
+
+// The answer to an event that the world alone answers.
+#[tactic(auto, unfolding(sm_model::specs::Answer::answer))]
+fn answer_of(world: &mut PlainWorld, alloc: Global, event: &Event) -> Result<Reply, PlainFault>
+    ensures { IfOk result (λ reply. IsAnswer world.old (answer world.old event.now) reply world.new) }
+{
+    match event {
+        Event::CreateVolume {
+            path,
+            disk,
+            kind,
+            logical,
+            physical,
+        } => create_volume(world, alloc, path, *disk, *kind, *logical, *physical),
+        Event::ShowVolumes => show_volumes(world, alloc),
+        Event::Write { path, block, fill } => write(world, alloc, path, *block, *fill),
+        Event::Snap { path, name, label } => snap(world, alloc, path, name, label),
+        Event::Unsnap { path, name } => unsnap(world, alloc, path, name),
+        Event::ShowSnaps { path } => show_snapshots(world, alloc, path),
+        Event::CreatePolicy { name, kind } => create_policy(world, alloc, name, *kind),
+        Event::AddRule {
+            name,
+            label,
+            keep,
+            preserve,
+        } => add_rule(world, alloc, name, label, *keep, *preserve),
+        Event::ShowPolicies => show_policies(world, alloc),
+        Event::Relate {
+            source,
+            destination,
+            policy,
+        } => relate(world, alloc, source, destination, policy),
+        Event::Initialize { destination } => initialize(world, alloc, destination),
+        Event::Update { destination } => update(world, alloc, destination),
+        Event::Quiesce { destination } => set_quiesced(world, alloc, destination, true),
+        Event::Resume { destination } => set_quiesced(world, alloc, destination, false),
+        Event::Abort { destination, hard } => abort(world, alloc, destination, *hard),
+        Event::Break { destination } => break_off(world, alloc, destination),
+        Event::Resync { destination } => resync(world, alloc, destination),
+        Event::Delete { destination } => delete(world, alloc, destination),
+        Event::Release {
+            source,
+            destination,
+        } => release(world, alloc, source, destination),
+        Event::ShowRelations => show_relations(world, alloc),
+        Event::Clock { time } => Ok(set_clock(world, *time)),
+        Event::Cp { path } => cp(world, alloc, path),
+        Event::Read { path, name, block } => read(world, alloc, path, name, *block),
+        Event::Work { .. } => Err(PlainFault::TooGreat),
+        Event::Restart => Err(PlainFault::TooGreat),
+        Event::Head => head(world),
+        Event::VolumeLine { volume } => of_volume(world, alloc, *volume),
+        Event::Digest { volume, place } => of_image(world, alloc, *volume, *place),
+        Event::RelationLine { relation } => of_relation(world, alloc, *relation),
+    }
+}
+
+/// Answers an event and changes the world as that says; a worker's step and a restart have no answer.
+///
+/// An `Err` leaves the world unspecified. `TooGreat` does not come in worlds within the limits.
+#[tactic(auto, unfolding(sm_model::specs::Answer::answer))]
+pub fn answer(
+    world: &mut PlainWorld,
+    alloc: Global,
+    event: &Event,
+) -> Result<Option<Reply>, PlainFault>
+    ensures { IfOk result (λ reply. IsReplied world.old (answer world.old event.now) reply world.new) }
+{
+    match event {
+        Event::Work { .. } => Ok(None),
+        Event::Restart => Ok(None),
+        _ => Ok(Some(answer_of(world, alloc, event)?)),
+    }
+}
