@@ -11,6 +11,8 @@ use Rattle.sm_model.specs.Answer.{answer}
 use Rattle.sm_model.specs.Choice.{chosen}
 use Rattle.sm_model.specs.Opened.{opened}
 use Rattle.sm_model.specs.Steps.{Effect}
+use Rattle.sm_model.specs.Asked.{Asked}
+use Rattle.plain_run.specs.declared.asked.PlainAsked.{PlainAsked}
 use Rattle.plain_answers.specs.Answering.{IsAnswered}
 
 -- the event has an answer, and this is it
@@ -34,3 +36,12 @@ IsActed old actor event reply new = IsReached old (answer old event) reply new
 abbrev pub AreActed : Up → List Entry → Up → Type 0
 AreActed old [] new = new ≡ old
 AreActed old (e ∷ es) new = (mid : Up) × IsActed old e.actor e.event e.reply mid × AreActed mid es new
+
+-- a worker's step or a restart
+unfoldable pub IsUnanswered : Event → Type 0
+IsUnanswered (events.Work shown) = Unit {0}
+IsUnanswered events.Restart = Unit {0}
+IsUnanswered event = ⊥
+
+abbrev pub asked_for : PlainAsked → Asked
+asked_for a = record { actor = a.actor; line = a.line; event = a.event }

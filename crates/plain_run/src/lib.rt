@@ -1,13 +1,11 @@
-// A library with one function.
+//! The plain machine: what a world with whole images makes of one event, and of a list of them.
+//!
+//! It has no disks, no script and no threads, and no disk fails in it. It is slow: there to try the
+//! definitions on small worlds, and for histories to be compared with.
 #![tactic(auto)]
 
-ghost use Rattle.std.specs.Prelude.{◌≡◌};
-ghost use Rattle.plain_run.specs.Echo.{echo_of};
+mod acting;
+mod asked;
 
-// The `ensures` clause is the contract: what `echo` returns is `echo_of` of its argument, a definition
-// in `specs/Echo.antt`, which a caller's clause can cite too.
-pub fn echo(x: usize) -> usize
-    ensures { result ≡ echo_of x }
-{
-    x
-}
+pub use acting::{act, run};
+pub use asked::PlainAsked;

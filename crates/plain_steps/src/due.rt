@@ -7,8 +7,8 @@ ghost use Rattle.plain_steps.specs.Kinds.{kind_of, kind_if, kind_ahead};
 ghost use Rattle.plain_steps.specs.Seen.{running_of};
 
 use crate::kinds::PlainKind;
-use crate::values::PlainRunning;
 use crate::shipping::{all_landed, at_checkpoint, cost, snapshot_of};
+use crate::values::PlainRunning;
 use plain_machine::{PlainSnapshot, has_copy};
 use plain_world::{PlainFault, is_rw};
 use sm_base::{Ident, PolicyKind, TransferKind};
@@ -81,11 +81,7 @@ fn lacks(snapshots: &[PlainSnapshot], reserved: bool, ident: Ident) -> bool
     reserved && !has_copy(snapshots, ident)
 }
 
-fn kind_ahead(
-    alloc: Global,
-    x: &PlainRunning,
-    leg: Ident,
-) -> Result<Option<PlainKind>, PlainFault>
+fn kind_ahead(alloc: Global, x: &PlainRunning, leg: Ident) -> Result<Option<PlainKind>, PlainFault>
     ensures { IfOk result (λ kind. kind_if kind ≡ kind_ahead (running_of x.now) leg) }
 {
     let transfer = x.transfer;

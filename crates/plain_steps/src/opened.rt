@@ -1,8 +1,9 @@
 // The world after a restart.
-ghost use Rattle.std.specs.Prelude.{◌≡◌, map, IfOk, OnOk};
+ghost use Rattle.std.specs.Prelude.{◌≡◌, map, IfOk, OnOk, OnErr};
 ghost use Rattle.sm_model.specs.Opened.{reopened, restarted, rejoined, opened};
 
-use crate::progress::interrupted;
+use crate::progress::{interrupted, with_transfer};
+use crate::reverting::copy_all;
 use plain_machine::copy_image;
 use plain_world::{PlainVolume, PlainWorld};
 use sm_base::{NoMemory, Reason};
@@ -21,53 +22,66 @@ fn restarted(
     }
 }
 
-fn reopen_one(alloc: Global, volume: &mut PlainVolume) -> Result<(), NoMemory>
-    ensures { OnOk result (volume.new ≡ reopened volume.old) }
+fn reopened(alloc: Global, volume: &PlainVolume) -> Result<PlainVolume, NoMemory>
+    ensures { IfOk result (λ next. next ≡ reopened volume.now) }
 {
-    let there = &*volume;
-    let active = copy_image(alloc, &there.stable)?;
-    volume.active = active;
-    Ok(())
+    Ok(PlainVolume {
+        path: volume.path.copy(alloc)?,
+        disk: volume.disk,
+        kind: volume.kind,
+        family: volume.family,
+        logical: volume.logical,
+        physical: volume.physical,
+        next: volume.next,
+        active: copy_image(alloc, &volume.stable)?,
+        stable: copy_image(alloc, &volume.stable)?,
+        snapshots: copy_all(alloc, &volume.snapshots)?,
+    })
 }
 
-fn reopen(alloc: Global, volumes: &mut [PlainVolume]) -> Result<(), NoMemory>
-    ensures { OnOk result (volumes.new ≡ map reopened volumes.old) }
+fn all_reopened(alloc: Global, volumes: &[PlainVolume]) -> Result<Vec<PlainVolume>, NoMemory>
+    ensures { IfOk result (λ all. all.items ≡ map reopened volumes.now) }
 {
     match volumes {
-        [] => Ok(()),
+        [] => Ok(Vec::new(alloc)),
         [volume, others @ ..] => {
-            reopen_one(alloc, volume)?;
-            reopen(alloc, others)
+            let mut all = all_reopened(alloc, others)?;
+            all.insert(0, reopened(alloc, volume)?)?;
+            Ok(all)
         }
     }
 }
 
-fn rejoin_one(alloc: Global, relation: &mut WorldRelation) -> Result<(), NoMemory>
-    ensures { OnOk result (relation.new ≡ rejoined relation.old) }
+fn rejoined(alloc: Global, relation: &WorldRelation) -> Result<WorldRelation, NoMemory>
+    ensures { IfOk result (λ next. next ≡ rejoined relation.now) }
 {
-    let there = &*relation;
-    let transfer = restarted(alloc, &there.transfer)?;
-    relation.transfer = transfer;
-    Ok(())
+    let transfer = restarted(alloc, &relation.transfer)?;
+    Ok(with_transfer(relation, transfer))
 }
 
-fn rejoin(alloc: Global, relations: &mut [WorldRelation]) -> Result<(), NoMemory>
-    ensures { OnOk result (relations.new ≡ map rejoined relations.old) }
+fn all_rejoined(alloc: Global, relations: &[WorldRelation]) -> Result<Vec<WorldRelation>, NoMemory>
+    ensures { IfOk result (λ all. all.items ≡ map rejoined relations.now) }
 {
     match relations {
-        [] => Ok(()),
+        [] => Ok(Vec::new(alloc)),
         [relation, others @ ..] => {
-            rejoin_one(alloc, relation)?;
-            rejoin(alloc, others)
+            let mut all = all_rejoined(alloc, others)?;
+            all.insert(0, rejoined(alloc, relation)?)?;
+            Ok(all)
         }
     }
 }
 
 /// Restarts: what was written since the last consistency points is lost, and each standing transfer is
-/// interrupted. An `Err` leaves a world that is good for nothing.
+/// interrupted. An `Err` leaves the world.
 pub fn open(world: &mut PlainWorld, alloc: Global) -> Result<(), NoMemory>
-    ensures { OnOk result (world.new ≡ opened world.old) }
+    ensures ok { OnOk result (world.new ≡ opened world.old) }
+    ensures err { OnErr result (world.new ≡ world.old) }
 {
-    reopen(alloc, &mut world.volumes)?;
-    rejoin(alloc, &mut world.relations)
+    let now = &*world;
+    let volumes = all_reopened(alloc, &now.volumes)?;
+    let relations = all_rejoined(alloc, &now.relations)?;
+    world.volumes = volumes;
+    world.relations = relations;
+    Ok(())
 }

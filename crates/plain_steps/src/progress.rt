@@ -223,11 +223,7 @@ fn insert_landed(alloc: Global, index: u32, landed: &[u32]) -> Result<Vec<u32>, 
     }
 }
 
-fn ship_reason(
-    alloc: Global,
-    x: &PlainRunning,
-    need: u32,
-) -> Result<Option<Reason>, PlainFault>
+fn ship_reason(alloc: Global, x: &PlainRunning, need: u32) -> Result<Option<Reason>, PlainFault>
     ensures { IfOk result (λ reason. reason ≡ ship_reason (running_of x.now) need) }
 {
     let policy = x.policy;

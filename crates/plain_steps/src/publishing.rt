@@ -143,30 +143,22 @@ pub(crate) fn prepare(
     }
 }
 
-fn is_elsewhere(
-    volumes: &[PlainVolume],
-    place: u64,
-    own: u32,
-    family: u64,
-    ident: Ident,
-) -> bool
+fn is_elsewhere(volumes: &[PlainVolume], place: u64, own: u32, family: u64, ident: Ident) -> bool
     requires { place + length volumes.now < 2 ^ 64 }
     ensures { result ≡ is_elsewhere volumes.now place own family ident }
 {
     match volumes {
         [] => false,
         [volume, others @ ..] => {
-            (place != u64::from(own) && volume.family == family && has_copy(&volume.snapshots, ident))
+            (place != u64::from(own)
+                && volume.family == family
+                && has_copy(&volume.snapshots, ident))
                 || is_elsewhere(others, place + 1, own, family, ident)
         }
     }
 }
 
-fn family_published(
-    world: &PlainWorld,
-    x: &PlainRunning,
-    ident: Ident,
-) -> Result<u64, PlainFault>
+fn family_published(world: &PlainWorld, x: &PlainRunning, ident: Ident) -> Result<u64, PlainFault>
     ensures { IfOk result (λ family. family ≡ family_published world.now (running_of x.now) ident) }
 {
     let policy = x.policy;
@@ -188,11 +180,7 @@ fn family_published(
 }
 
 /// A leg as the destination has it.
-fn arrived(
-    alloc: Global,
-    x: &PlainRunning,
-    leg: &PlainSnapshot,
-) -> Result<PlainSnapshot, NoMemory>
+fn arrived(alloc: Global, x: &PlainRunning, leg: &PlainSnapshot) -> Result<PlainSnapshot, NoMemory>
     ensures { IfOk result (λ there. there ≡ arrived (running_of x.now) leg.now) }
 {
     Ok(PlainSnapshot {

@@ -62,7 +62,10 @@ pub(crate) fn with_first(
     Ok(others)
 }
 
-pub(crate) fn copy_all(alloc: Global, snapshots: &[PlainSnapshot]) -> Result<Vec<PlainSnapshot>, NoMemory>
+pub(crate) fn copy_all(
+    alloc: Global,
+    snapshots: &[PlainSnapshot],
+) -> Result<Vec<PlainSnapshot>, NoMemory>
     ensures { IfOk result (λ all. all.items ≡ snapshots.now) }
 {
     match snapshots {
@@ -338,11 +341,7 @@ fn prune_reason(
 }
 
 /// The destination without what goes.
-fn pruned(
-    alloc: Global,
-    world: &PlainWorld,
-    x: &PlainRunning,
-) -> Result<PlainVolume, NoMemory>
+fn pruned(alloc: Global, world: &PlainWorld, x: &PlainRunning) -> Result<PlainVolume, NoMemory>
     ensures { IfOk result (λ volume. volume ≡ without (goes world.now (running_of x.now)) (running_of x.now).destination) }
 {
     let destination = x.destination;

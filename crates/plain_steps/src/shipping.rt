@@ -10,7 +10,8 @@ ghost use Rattle.plain_steps.specs.Seen.{running_of};
 
 use crate::values::PlainRunning;
 use plain_machine::{
-    PlainBases, PlainBlock, PlainSnapshot, copy_image, is_same, mirror_cost, vault_cost, vault_landing,
+    PlainBases, PlainBlock, PlainSnapshot, copy_image, is_same, mirror_cost, vault_cost,
+    vault_landing,
 };
 use plain_world::{PlainFault, free_tags};
 use sm_base::{Ident, NoMemory, PolicyKind};

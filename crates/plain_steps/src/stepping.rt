@@ -47,11 +47,7 @@ fn apply(world: &mut PlainWorld, at: usize, change: PlainChange) -> Reply
 
 /// Does the step that this program chooses for an actor, and answers what it is told; none where no step
 /// is due. An `Err` leaves the world.
-pub fn step(
-    world: &mut PlainWorld,
-    alloc: Global,
-    actor: u32,
-) -> Result<Option<Reply>, PlainFault>
+pub fn step(world: &mut PlainWorld, alloc: Global, actor: u32) -> Result<Option<Reply>, PlainFault>
     ensures stepped { IfOk result (λ reply. IsStepped world.old (chosen world.old actor) reply world.new) }
     ensures err { OnErr result (world.new ≡ world.old) }
 {
