@@ -382,3 +382,151 @@ fn a_restart_goes_back_to_the_consistency_point(rt: HostRuntime) -> Result<(), F
     )?;
     Ok(())
 }
+
+/// A block that a consistency point needs is not free, though the active image has another.
+#[test]
+fn a_write_leaves_what_a_restart_needs(rt: HostRuntime) -> Result<(), Fail> {
+    begin(
+        &rt,
+        &[
+            (CreateVolume("s:a", 1, Rw, 1, 2), "ok volume=0"),
+            (Write("s:a", 0, 5), "ok"),
+            (Write("s:a", 0, 6), "ok"),
+            (Write("s:a", 0, 7), "ok"),
+            (Cp("s:a"), "ok"),
+            (Write("s:a", 0, 8), "ok"),
+            (
+                ShowVolumes,
+                "ok lines=1\n  volume 0 s:a type=rw blocks=1 physical=2 used=2 snapshots=0",
+            ),
+            (Write("s:a", 0, 9), "refused NoSpace"),
+            (Cp("s:a"), "ok"),
+            (Write("s:a", 0, 9), "ok"),
+            (Restart, "ok"),
+            (Read("s:a", "", 0), "ok fill=8"),
+        ],
+    )?;
+    Ok(())
+}
+
+/// Of 66 blocks the first 64 may be sent at once, and a restart goes on behind them.
+#[test]
+fn a_restart_keeps_the_checkpoint(rt: HostRuntime) -> Result<(), Fail> {
+    begin(
+        &rt,
+        &[
+            (CreateVolume("s:a", 1, Rw, 66, 132), "ok volume=0"),
+            (CreateVolume("s:b", 2, Dp, 66, 132), "ok volume=1"),
+            (CreatePolicy("m", AsyncMirror), "ok"),
+            (Relate("s:a", "s:b", "m"), "ok relationship=1"),
+            (Writes("s:a", 0, 66, 0), "ok"),
+            (Initialize("s:b"), "ok transfer=1 legs=1"),
+            (Steps(2), "prune relationship=1 dropped=0"),
+            (WorkOf(130), "ship relationship=1 index=2 cost=66"),
+            (Work, "ship relationship=1 index=0 cost=66"),
+            (Work, "ship relationship=1 index=1 cost=66"),
+            (Work, "ship relationship=1 index=3 cost=66"),
+            (Steps(61), "checkpoint relationship=1 prefix=64"),
+            (Work, "ship relationship=1 index=64 cost=66"),
+            (Restart, "ok"),
+            (Update("s:b"), "refused Uninitialized"),
+            (Initialize("s:b"), "ok transfer=1 resumed=64"),
+            (Work, "ship relationship=1 index=64 cost=66"),
+            (Work, "ship relationship=1 index=65 cost=66"),
+            (Work, "publish relationship=1 id=0.3 dropped=0"),
+        ],
+    )?;
+    Ok(())
+}
+
+/// Where all blocks have landed at 64, the leg is published.
+#[test]
+fn a_leg_of_64_blocks_has_no_checkpoint(rt: HostRuntime) -> Result<(), Fail> {
+    begin(
+        &rt,
+        &[
+            (CreateVolume("s:a", 1, Rw, 64, 64), "ok volume=0"),
+            (CreateVolume("s:b", 2, Dp, 64, 64), "ok volume=1"),
+            (CreatePolicy("m", AsyncMirror), "ok"),
+            (Relate("s:a", "s:b", "m"), "ok relationship=1"),
+            (Writes("s:a", 0, 64, 0), "ok"),
+            (Initialize("s:b"), "ok transfer=1 legs=1"),
+            (Steps(66), "ship relationship=1 index=63 cost=64"),
+            (Work, "publish relationship=1 id=0.3 dropped=0"),
+        ],
+    )?;
+    Ok(())
+}
+
+/// A snapshot that a transfer is to send is held, until the transfer is gone.
+#[test]
+fn a_leg_is_held(rt: HostRuntime) -> Result<(), Fail> {
+    let mut world = mirror(&rt)?;
+    go_on(
+        &rt,
+        &mut world,
+        &[
+            (AddRule("m", "all_source_snapshots", 1, false), "ok"),
+            (Clock(86_400), "ok"),
+            (Snap("s:a", "x", "d"), "ok id=0.2"),
+            (Initialize("s:b"), "ok transfer=1 legs=2"),
+            (Unsnap("s:a", "x"), "refused Held relationship=1"),
+            (Abort("s:b", false), "ok checkpoint=0"),
+            (Unsnap("s:a", "x"), "refused Held relationship=1"),
+            (
+                ShowSnaps("s:a"),
+                "ok lines=1\n  snapshot 0 x id=0.2 label=d time=86400 made=client",
+            ),
+            (Abort("s:b", true), "ok ended"),
+            (Unsnap("s:a", "x"), "ok"),
+            (ShowSnaps("s:a"), "ok lines=0"),
+        ],
+    )
+}
+
+/// Of two relationships between the volumes, the one without its destination half is released first.
+#[test]
+fn a_half_that_is_left_is_released_first(rt: HostRuntime) -> Result<(), Fail> {
+    let mut world = mirrored(&rt)?;
+    go_on(
+        &rt,
+        &mut world,
+        &[
+            (Delete("s:b"), "ok"),
+            (
+                Unsnap("s:a", "snapmirror.1.1"),
+                "refused Held relationship=1",
+            ),
+            (Relate("s:a", "s:b", "m"), "ok relationship=2"),
+            (Release("s:a", "s:b"), "ok"),
+            (
+                ShowRelations,
+                "ok lines=1\n  relationship 2 s:a s:b policy=m state=snapmirrored status=idle base=- transfer=-",
+            ),
+            (Release("s:a", "s:b"), "refused Active"),
+            (Work, "tidy volume=0 dropped=1"),
+            (Break("s:b"), "ok"),
+            (Resync("s:b"), "refused NoCommon"),
+        ],
+    )
+}
+
+#[test]
+fn a_resync_takes_the_source_half_again(rt: HostRuntime) -> Result<(), Fail> {
+    let mut world = mirrored(&rt)?;
+    go_on(
+        &rt,
+        &mut world,
+        &[
+            (Break("s:b"), "ok"),
+            (Release("s:a", "s:b"), "ok"),
+            (Release("s:a", "s:b"), "refused NoRelation path=s:b"),
+            (Resync("s:b"), "ok transfer=2 common=0.3 legs=1"),
+            (
+                Unsnap("s:a", "snapmirror.1.1"),
+                "refused Held relationship=1",
+            ),
+            (Release("s:a", "s:b"), "refused Transferring"),
+        ],
+    )
+}

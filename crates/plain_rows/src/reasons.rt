@@ -161,6 +161,7 @@ fn another_family_stops_a_prune(rt: HostRuntime) -> Result<(), Fail> {
             (Resync("s:b"), "ok transfer=5 common=0.4 legs=0"),
             (Work, "revert relationship=1 dropped=0"),
             (Work, "settle relationship=1 base=0.4 ended"),
+            (Update("s:c"), "refused Transferring"),
             (Work, "interrupted relationship=2 reason=OtherLayout"),
             (Work, "idle"),
             (Update("s:c"), "refused OtherLayout"),
@@ -254,6 +255,7 @@ fn a_stopped_transfer_tells_why(rt: HostRuntime) -> Result<(), Fail> {
             (Release("s:b", "s:c"), "ok"),
             (Update("s:b"), "ok transfer=3 legs=1"),
             (Abort("s:b", false), "ok checkpoint=0"),
+            (Break("s:b"), "refused Transferring"),
             (
                 ShowRelations,
                 "ok lines=1\n  relationship 1 s:a s:b policy=m state=snapmirrored status=idle base=0.3 transfer=3:Aborted",

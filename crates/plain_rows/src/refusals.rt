@@ -120,6 +120,7 @@ fn the_lowest_holder_is_named(rt: HostRuntime) -> Result<(), Fail> {
                 Unsnap("s:a", "snapmirror.1.1"),
                 "refused Held relationship=1",
             ),
+            (Relate("s:c", "s:a", "m"), "refused Cycle"),
         ],
     )
 }

@@ -105,3 +105,49 @@ fn a_vault_without_room_is_interrupted(rt: HostRuntime) -> Result<(), Fail> {
     )?;
     Ok(())
 }
+
+/// A client's snapshot of a vault that was broken off has the name of one that the resync brings.
+#[test]
+fn a_name_means_the_newest_snapshot(rt: HostRuntime) -> Result<(), Fail> {
+    let mut world = begin(
+        &rt,
+        &[
+            (CreateVolume("s:a", 1, Rw, 2, 6), "ok volume=0"),
+            (CreateVolume("s:b", 2, Dp, 2, 6), "ok volume=1"),
+            (CreatePolicy("v", Vault), "ok"),
+            (AddRule("v", "d", 5, false), "ok"),
+            (Relate("s:a", "s:b", "v"), "ok relationship=1"),
+            (Write("s:a", 0, 1), "ok"),
+            (Snap("s:a", "d1", "d"), "ok id=0.2"),
+            (Initialize("s:b"), "ok transfer=1 legs=1"),
+            (Settle, "settled"),
+            (Clock(60), "ok"),
+            (Write("s:a", 0, 2), "ok"),
+            (Snap("s:a", "d2", "d"), "ok id=0.4"),
+            (Break("s:b"), "ok"),
+            (Write("s:b", 0, 7), "ok"),
+            (Snap("s:b", "d2", "d"), "ok id=1.2"),
+        ],
+    )?;
+    go_on(
+        &rt,
+        &mut world,
+        &[
+            (Resync("s:b"), "ok transfer=2 common=0.2 legs=1"),
+            (Work, "revert relationship=1 dropped=0"),
+            (Read("s:b", "", 0), "ok fill=1"),
+            (Read("s:b", "d2", 0), "ok fill=7"),
+            (Work, "ship relationship=1 index=0 cost=1"),
+            (Work, "publish relationship=1 id=0.4 dropped=0"),
+            (Work, "settle relationship=1 base=0.4"),
+            (Work, "idle"),
+            (Read("s:b", "d2", 0), "ok fill=2"),
+            (
+                ShowSnaps("s:b"),
+                "ok lines=3\n  snapshot 1 d1 id=0.2 label=d time=0 made=client\n  snapshot 1 d2 id=1.2 label=d time=60 made=client\n  snapshot 1 d2 id=0.4 label=d time=60 made=client",
+            ),
+            (Break("s:b"), "ok"),
+            (Unsnap("s:b", "d2"), "refused Held relationship=1"),
+        ],
+    )
+}
