@@ -73,7 +73,8 @@ fn answer_of(world: &mut PlainWorld, alloc: Global, event: &Event) -> Result<Rep
 
 /// Answers an event and changes the world as that says; a worker's step and a restart have no answer.
 ///
-/// An `Err` leaves the world unspecified. `TooGreat` does not come in worlds within the limits.
+/// An `Err` leaves the world unspecified. `TooGreat` does not come in worlds within the limits whose places
+/// all stand, at an event that names what stands.
 #[tactic(auto, unfolding(sm_model::specs::Answer::answer))]
 pub fn answer(
     world: &mut PlainWorld,

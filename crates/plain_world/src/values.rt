@@ -67,7 +67,8 @@ pub enum PlainEdges {
 pub enum PlainFault {
     /// There is no memory left for this call.
     NoMemory,
-    /// A number of the world is greater than what a reply, a list or a name can hold.
+    /// A number of the world is greater than what a reply, a list or a name can hold, a place in it is
+    /// past the last, or a block has not 4,096 bytes. In worlds within the limits this does not come.
     TooGreat,
 }
 
