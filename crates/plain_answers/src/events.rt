@@ -3,14 +3,16 @@ ghost use Rattle.std.specs.Prelude.{IfOk};
 ghost use Rattle.sm_model.specs.Answer.{answer};
 ghost use Rattle.plain_volumes.specs.Answering.{IsReplied, IsAnswer};
 
-use plain_volumes::{add_rule, create_policy, set_clock};
-use plain_transfers::{break_off, delete, relate, release, set_quiesced};
 use crate::reports::{
     head, of_image, of_relation, of_volume, show_policies, show_relations, show_snapshots,
     show_volumes,
 };
-use plain_transfers::{abort, initialize, resync, update};
-use plain_volumes::{cp, create_volume, read, snap, unsnap, write};
+use plain_transfers::{
+    abort, break_off, delete, initialize, relate, release, resync, set_quiesced, update,
+};
+use plain_volumes::{
+    add_rule, cp, create_policy, create_volume, read, set_clock, snap, unsnap, write,
+};
 use plain_world::{PlainFault, PlainWorld};
 use sm_model::{Event, Reply};
 use std::alloc::Global;

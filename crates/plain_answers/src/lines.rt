@@ -3,9 +3,9 @@ ghost use Rattle.std.specs.Prelude.{◌≡◌, IfOk};
 ghost use Rattle.sm_defs.specs.World.{volume_at};
 ghost use Rattle.sm_model.specs.OfReport as model;
 
-use plain_volumes::small;
-use plain_transfers::policy_of;
 use plain_machine::{PlainBlock, PlainSnapshot};
+use plain_transfers::policy_of;
+use plain_volumes::small;
 use plain_world::{PlainFault, PlainVolume, PlainWorld, mirror_state, status, used, volume_at};
 use sha2::{Digest, Sha256};
 use sm_base::{NoMemory, VolNo};

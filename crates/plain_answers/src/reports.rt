@@ -9,9 +9,9 @@ ghost use Rattle.plain_volumes.specs.Answering.{Answers};
 use crate::lines::{
     active_line, listed_line, policy_line, relation_line, snapshot_line, volume_line, volume_of,
 };
-use plain_volumes::{place_of, refuse_path, small};
-use plain_transfers::relation;
 use plain_machine::PlainSnapshot;
+use plain_transfers::relation;
+use plain_volumes::{place_of, refuse_path, small};
 use plain_world::{PlainFault, PlainVolume, PlainWorld, snapshots_at};
 use sm_base::{NoMemory, Path, RelNo, VolNo};
 use sm_model::{Line, Lines, Reply, WorldPolicy, WorldRelation};

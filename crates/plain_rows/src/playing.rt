@@ -52,11 +52,7 @@ fn step_to<R: AllocGlobal + Abort>(
     play(rt, world, 0, &Event::Work { shown: true }, text)
 }
 
-fn settle<R: AllocGlobal + Abort>(
-    rt: &R,
-    world: &mut PlainWorld,
-    text: &str,
-) -> Result<(), Fail> {
+fn settle<R: AllocGlobal + Abort>(rt: &R, world: &mut PlainWorld, text: &str) -> Result<(), Fail> {
     for _ in 0..10_000u32 {
         if let Reply::Idle = act(world, rt.alloc(), 0, &Event::Work { shown: false })? {
             assert_eq!(rt; "settled", text);

@@ -12,9 +12,10 @@ ghost use Rattle.plain_world.specs.Finding.{IsFound};
 ghost use Rattle.plain_volumes.specs.Answering.{Answers};
 ghost use Rattle.plain_transfers.specs.Targets.{IsReleased};
 
-use plain_volumes::{is_writable, place_of, refuse_path, small, volume};
-use plain_volumes::{place_of_policy, policy, refuse_policy};
 use crate::targets::{has_transfer, is_bare, no_target, relation, target};
+use plain_volumes::{
+    is_writable, place_of, place_of_policy, policy, refuse_path, refuse_policy, small, volume,
+};
 use plain_world::{PlainEdges, PlainFault, PlainVolume, PlainWorld, relation_to, upstream};
 use sm_base::{Kind, Path, Path1, PolicyKind, Refusal, RelNo, VolNo, What};
 use sm_model::{Reply, WorldRelation};

@@ -9,10 +9,9 @@ ghost use Rattle.sm_defs.specs.World.{volume_at, policy_at, relation_at, with_re
 ghost use Rattle.sm_model.specs.OfTransfers as model;
 ghost use Rattle.plain_volumes.specs.Answering.{Answers};
 
-use plain_volumes::small;
-use plain_volumes::policy;
 use crate::targets::relation;
 use plain_machine::{PlainLegs, PlainSnapshot, PlainSource, is_among, keep_reached, legs};
+use plain_volumes::{policy, small};
 use plain_world::{PlainFault, PlainWorld, kind_at, snapshots_at};
 use sm_base::{Ident, Label, NoMemory, PolicyKind, Refusal, TransferKind, What};
 use sm_model::{Reply, WorldPolicy, WorldRelation, WorldRule, WorldTransfer, copy_label};

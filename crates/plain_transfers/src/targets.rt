@@ -5,8 +5,8 @@ ghost use Rattle.sm_defs.specs.World.{volume_at, relation_at};
 ghost use Rattle.sm_model.specs.Answers.{target_named};
 ghost use Rattle.plain_transfers.specs.Targets.{IsTarget};
 
-use plain_volumes::place_of;
 use crate::target::PlainTarget;
+use plain_volumes::place_of;
 use plain_world::{PlainFault, PlainWorld, relation_to, runs, snapshots_at};
 use sm_base::{Path, Refusal};
 use sm_model::WorldRelation;

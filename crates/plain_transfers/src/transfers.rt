@@ -14,13 +14,13 @@ ghost use Rattle.sm_defs.specs.World.{volume_at, policy_at, relation_at, with_re
 ghost use Rattle.sm_model.specs.OfTransfers as model;
 ghost use Rattle.plain_volumes.specs.Answering.{Answers};
 
-use plain_volumes::{is_writable, small};
 use crate::starting::{
     copy_snapshots, count_legs, has_all_transfers, new_transfer, next_legs, next_number,
     numbers_below, put, put_next, resume_or_start, test_room, with_transfer,
 };
 use crate::targets::{is_bare, is_running, no_target, relation, target};
 use plain_machine::{PlainLegs, PlainSnapshot, behind, common, has_copy, is_same};
+use plain_volumes::{is_writable, small};
 use plain_world::{
     PlainEdges, PlainFault, PlainWorld, needed_at_source, needed_for, policy_kind_at, snapshots_at,
     upstream, volume_at,
