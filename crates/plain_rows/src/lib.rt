@@ -6,12 +6,12 @@ mod asking;
 #[cfg(test)]
 mod limits;
 #[cfg(test)]
+mod mirrors;
+#[cfg(test)]
 mod playing;
 #[cfg(test)]
 mod reasons;
 #[cfg(test)]
 mod refusals;
-#[cfg(test)]
-mod mirrors;
 #[cfg(test)]
 mod vaults;

@@ -77,19 +77,13 @@ fn policies_run_out(rt: HostRuntime) -> Result<(), Fail> {
         &mut world,
         &[
             (CreatePolicy("p3", AsyncMirror), "refused NameTaken"),
-            (
-                CreatePolicy("x", AsyncMirror),
-                "refused Full what=policies",
-            ),
+            (CreatePolicy("x", AsyncMirror), "refused Full what=policies"),
         ],
     )
 }
 
 /// Relates s:a to s:b and takes the destination half away, 64 times.
-fn add_halves<R: AllocGlobal + process::Abort>(
-    rt: &R,
-    world: &mut PlainWorld,
-) -> Result<(), Fail> {
+fn add_halves<R: AllocGlobal + process::Abort>(rt: &R, world: &mut PlainWorld) -> Result<(), Fail> {
     let alloc = rt.alloc();
     for number in 1..65u32 {
         let event = Event::Relate {
@@ -120,10 +114,7 @@ fn relationships_run_out(rt: HostRuntime) -> Result<(), Fail> {
         &rt,
         &mut world,
         &[
-            (
-                Relate("s:a", "s:b", "m"),
-                "refused Full what=relationships",
-            ),
+            (Relate("s:a", "s:b", "m"), "refused Full what=relationships"),
             (Relate("s:a", "s:a", "m"), "refused Cycle"),
             (Release("s:a", "s:b"), "ok"),
             (Relate("s:a", "s:b", "m"), "ok relationship=65"),
@@ -214,10 +205,7 @@ fn a_full_vault_is_interrupted(rt: HostRuntime) -> Result<(), Fail> {
 /// A volume numbers the snapshots of its clients up to 2^62 - 1.
 #[test]
 fn snapshot_numbers_run_out(rt: HostRuntime) -> Result<(), Fail> {
-    let mut world = begin(
-        &rt,
-        &[(CreateVolume("s:a", 1, Rw, 1, 1), "ok volume=0")],
-    )?;
+    let mut world = begin(&rt, &[(CreateVolume("s:a", 1, Rw, 1, 1), "ok volume=0")])?;
     for volume in world.volumes.iter_mut() {
         volume.next = (1 << 62) - 1;
     }

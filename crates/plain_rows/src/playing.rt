@@ -1,12 +1,30 @@
 // Lists of events, each with the text that it is answered.
 use crate::asking::{Ask, event_of};
-use plain_run::act;
+use plain_answers::answer;
+use plain_steps::{open, step};
 use plain_world::PlainWorld;
 use sm_base::VolNo;
 use sm_model::{Event, Reply, text_of_reply};
 use std::alloc::Global;
 use std::process::Abort;
 use std::test::Fail;
+
+/// What an event is answered by an actor.
+fn act(world: &mut PlainWorld, alloc: Global, actor: u32, event: &Event) -> Result<Reply, Fail> {
+    if let Some(reply) = answer(world, alloc, event)? {
+        return Ok(reply);
+    }
+    match event {
+        Event::Work { .. } => match step(world, alloc, actor)? {
+            None => Ok(Reply::Idle),
+            Some(reply) => Ok(reply),
+        },
+        _ => {
+            open(world, alloc)?;
+            Ok(Reply::Done)
+        }
+    }
+}
 
 /// Does an event, and compares the text of its reply.
 pub(crate) fn play<R: AllocGlobal + Abort>(
@@ -52,11 +70,7 @@ fn step_to<R: AllocGlobal + Abort>(
     play(rt, world, 0, &Event::Work { shown: true }, text)
 }
 
-fn settle<R: AllocGlobal + Abort>(
-    rt: &R,
-    world: &mut PlainWorld,
-    text: &str,
-) -> Result<(), Fail> {
+fn settle<R: AllocGlobal + Abort>(rt: &R, world: &mut PlainWorld, text: &str) -> Result<(), Fail> {
     for _ in 0..10_000u32 {
         if let Reply::Idle = act(world, rt.alloc(), 0, &Event::Work { shown: false })? {
             assert_eq!(rt; "settled", text);

@@ -109,10 +109,7 @@ fn a_source_that_became_a_destination_stops_its_transfer(rt: HostRuntime) -> Res
             (Work, "prune relationship=1 dropped=0"),
             (Work, "publish relationship=1 id=0.9 dropped=0"),
             (Work, "settle relationship=1 base=0.9"),
-            (
-                Work,
-                "interrupted relationship=2 reason=SourceReadOnly",
-            ),
+            (Work, "interrupted relationship=2 reason=SourceReadOnly"),
             (Work, "idle"),
             (
                 ShowRelations,

@@ -229,10 +229,7 @@ fn relationship_numbers_run_out(rt: HostRuntime) -> Result<(), Fail> {
             (CreatePolicy("m", AsyncMirror), "ok"),
             (Relate("s:a", "s:b", "m"), "ok relationship=4294967294"),
             (Relate("s:b", "s:a", "m"), "refused Cycle"),
-            (
-                Relate("s:a", "s:c", "m"),
-                "refused Full what=relationships",
-            ),
+            (Relate("s:a", "s:c", "m"), "refused Full what=relationships"),
         ],
     )
 }

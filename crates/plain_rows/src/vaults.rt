@@ -1,10 +1,9 @@
 // Whole courses of vaults.
 use crate::asking::Ask::*;
-use crate::playing::begin;
+use crate::playing::{begin, go_on};
 use sm_base::Kind::{Dp, Rw};
 use sm_base::PolicyKind::{AsyncMirror, Vault};
 use std::test::Fail;
-use crate::playing::go_on;
 
 /// A vault that is mirrored further: s:a to s:b by v, which keeps two, and s:b to s:c by m.
 #[test]
