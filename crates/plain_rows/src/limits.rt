@@ -82,18 +82,26 @@ fn policies_run_out(rt: HostRuntime) -> Result<(), Fail> {
     )
 }
 
-/// Relates s:a to s:b and takes the destination half away, 64 times.
+/// Relates s:a to s:b and takes the destination half away.
+fn add_half<R: AllocGlobal + process::Abort>(
+    rt: &R,
+    world: &mut PlainWorld,
+    number: u32,
+) -> Result<(), Fail> {
+    let text = format!(in rt.alloc(); "ok relationship={number}")?;
+    go_on(
+        rt,
+        world,
+        &[
+            (Relate("s:a", "s:b", "m"), text.as_str()),
+            (Delete("s:b"), "ok"),
+        ],
+    )
+}
+
 fn add_halves<R: AllocGlobal + process::Abort>(rt: &R, world: &mut PlainWorld) -> Result<(), Fail> {
-    let alloc = rt.alloc();
     for number in 1..65u32 {
-        let event = Event::Relate {
-            source: Path::read(alloc, b"s:a")?,
-            destination: Path::read(alloc, b"s:b")?,
-            policy: Path1::read(alloc, b"m")?,
-        };
-        let text = format!(in alloc; "ok relationship={number}")?;
-        play(rt, world, 0, &event, text.as_str())?;
-        go_on(rt, world, &[(Delete("s:b"), "ok")])?;
+        add_half(rt, world, number)?;
     }
     Ok(())
 }
