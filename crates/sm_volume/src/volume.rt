@@ -33,6 +33,14 @@ impl<D: Disk> Volume<D> {
         self.store.told();
     }
 
+    /// Whether no call has failed on the disk since the volume was made, opened or restarted: only
+    /// then another call than a restart may be made.
+    pub fn is_up(&self) -> bool
+        ensures { result ≡ self.now.up }
+    {
+        self.store.is_up()
+    }
+
     /// What the disk keeps of the volume beside its blocks.
     pub fn root(&self) -> &Root
         ensures { result.now ≡ root_of self.now.number self.now.volume }

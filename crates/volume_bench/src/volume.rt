@@ -1,5 +1,5 @@
 // The calls of a volume.
-ghost use Rattle.std.specs.Prelude.{◌≡◌, true, OnOk, IfOk};
+ghost use Rattle.std.specs.Prelude.{◌≡◌, true, OnOk};
 
 use sm_base::{Block, Ident, Kind, NameFault, NoMemory, SnapName, VolNo};
 use sm_memdisk::MemDisk;
@@ -34,9 +34,7 @@ impl Size {
 }
 
 // A volume of holes.
-fn empty(alloc: Global, size: Size) -> Result<Store<MemDisk>, VolumeFault>
-    ensures { IfOk result (λ v. v.up ≡ true) }
-{
+fn empty(alloc: Global, size: Size) -> Result<Store<MemDisk>, VolumeFault> {
     let disk = MemDisk::new(alloc, size.disk_len())?;
     let made = match size {
         Size::Small => Store::create(alloc, disk, VolNo(1), Kind::Rw, 4, 16),
@@ -48,24 +46,49 @@ fn empty(alloc: Global, size: Size) -> Result<Store<MemDisk>, VolumeFault>
     }
 }
 
-/// Writes so many blocks, the first at the place `from`.
-pub fn write_blocks(volume: &mut Store<MemDisk>, from: u32, count: u32) -> Result<(), VolumeFault>
-    requires { volume.old.up ≡ true }
-    ensures { OnOk result (volume.new.up ≡ true) }
+// A fault where the volume is down.
+fn check_up(volume: &Store<MemDisk>) -> Result<(), VolumeFault>
+    ensures { OnOk result (volume.now.up ≡ true) }
 {
+    if volume.is_up() {
+        Ok(())
+    } else {
+        Err(VolumeFault::DiskFault)
+    }
+}
+
+fn write(volume: &mut Store<MemDisk>, at: u32, block: &Block) -> Result<(), VolumeFault> {
+    check_up(volume)?;
+    volume.write(at, block)
+}
+
+fn settle(alloc: Global, volume: &mut Store<MemDisk>) -> Result<(), VolumeFault> {
+    check_up(volume)?;
+    volume.cp(alloc)
+}
+
+fn remove(alloc: Global, volume: &mut Store<MemDisk>, drops: &[Ident]) -> Result<(), VolumeFault> {
+    check_up(volume)?;
+    volume.remove(alloc, drops)
+}
+
+/// Writes so many blocks, the first at the place `from`.
+pub fn write_blocks(volume: &mut Store<MemDisk>, from: u32, count: u32) -> Result<(), VolumeFault> {
     let logical = volume.root().logical.max(1);
     let block = Block([7; 4096]);
     for k in 0..count {
-        volume.write(from.wrapping_add(k) % logical, &block)?;
+        write(volume, from.wrapping_add(k) % logical, &block)?;
     }
     Ok(())
 }
 
 // Takes the snapshot of that number.
-fn take_snapshot(alloc: Global, volume: &mut Store<MemDisk>, number: u32) -> Result<(), VolumeFault>
-    requires { volume.old.up ≡ true }
-    ensures { OnOk result (volume.new.up ≡ true) }
-{
+fn take_snapshot(
+    alloc: Global,
+    volume: &mut Store<MemDisk>,
+    number: u32,
+) -> Result<(), VolumeFault> {
+    check_up(volume)?;
     let ident = ident_of(number);
     if volume.has_snapshot(ident) {
         return Err(VolumeFault::SnapFull);
@@ -91,16 +114,14 @@ fn ident_of(number: u32) -> Ident {
 }
 
 /// A volume with all its blocks written, and with so many snapshots, between which a block is written.
-pub fn prepared(alloc: Global, size: Size, snapshots: u32) -> Result<Store<MemDisk>, VolumeFault>
-    ensures { IfOk result (λ v. v.up ≡ true) }
-{
+pub fn prepared(alloc: Global, size: Size, snapshots: u32) -> Result<Store<MemDisk>, VolumeFault> {
     let mut volume = empty(alloc, size)?;
     write_blocks(&mut volume, 0, size.logical())?;
     for number in 0..snapshots {
         write_blocks(&mut volume, number, 1)?;
         take_snapshot(alloc, &mut volume, number)?;
     }
-    volume.cp(alloc)?;
+    settle(alloc, &mut volume)?;
     Ok(volume)
 }
 
@@ -109,13 +130,10 @@ pub fn commit_often(
     alloc: Global,
     volume: &mut Store<MemDisk>,
     count: u32,
-) -> Result<(), VolumeFault>
-    requires { volume.old.up ≡ true }
-    ensures { OnOk result (volume.new.up ≡ true) }
-{
+) -> Result<(), VolumeFault> {
     for k in 0..count {
         write_blocks(volume, k.wrapping_mul(4), 4)?;
-        volume.cp(alloc)?;
+        settle(alloc, volume)?;
     }
     Ok(())
 }
@@ -125,14 +143,11 @@ pub fn snapshot_often(
     alloc: Global,
     volume: &mut Store<MemDisk>,
     count: u32,
-) -> Result<(), VolumeFault>
-    requires { volume.old.up ≡ true }
-    ensures { OnOk result (volume.new.up ≡ true) }
-{
+) -> Result<(), VolumeFault> {
     for k in 0..count {
         let number = k.saturating_add(1000);
         take_snapshot(alloc, volume, number)?;
-        volume.remove(alloc, &[ident_of(number)])?;
+        remove(alloc, volume, &[ident_of(number)])?;
     }
     Ok(())
 }
@@ -142,12 +157,9 @@ pub fn remove_often(
     alloc: Global,
     volume: &mut Store<MemDisk>,
     count: u32,
-) -> Result<(), VolumeFault>
-    requires { volume.old.up ≡ true }
-    ensures { OnOk result (volume.new.up ≡ true) }
-{
+) -> Result<(), VolumeFault> {
     for _ in 0..count {
-        volume.remove(alloc, &[])?;
+        remove(alloc, volume, &[])?;
     }
     Ok(())
 }

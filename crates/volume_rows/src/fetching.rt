@@ -1,5 +1,5 @@
 // Blocks that are read by their number.
-ghost use Rattle.std.specs.Prelude.{◌≡◌, true, OnOk};
+ghost use Rattle.std.specs.Prelude.{◌≡◌, true};
 ghost use Rattle.sm_defs.specs.Image.{stands};
 ghost use Rattle.sm_defs.specs.Volume.{tags_of};
 
@@ -7,7 +7,7 @@ use crate::table::destination;
 use sm_memdisk::MemDisk;
 use sm_volume::Volume;
 use std::test::Fail;
-use volume_tools::{fill_of, full, put_and_settle, small};
+use volume_tools::{check_up, fill_of, full, put_and_settle, small};
 
 fn has_number(numbers: &[u32], number: u32) -> bool
     ensures { result ≡ stands number numbers.now }
@@ -23,10 +23,8 @@ fn is_stable(volume: &Volume<MemDisk>, number: u32) -> bool
 }
 
 // What the block of a number of the stable image holds.
-fn fetched(volume: &mut Volume<MemDisk>, number: u32) -> Result<Option<u8>, Fail>
-    requires { volume.old.up ≡ true }
-    ensures { OnOk result (volume.new.up ≡ true) }
-{
+fn fetched(volume: &mut Volume<MemDisk>, number: u32) -> Result<Option<u8>, Fail> {
+    check_up(volume)?;
     if number == 0 {
         return Err("a hole has no number")?;
     }

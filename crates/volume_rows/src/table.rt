@@ -1,7 +1,6 @@
 // A volume against the plain definitions, call after call.
-ghost use Rattle.std.specs.Prelude.{◌≡◌, ◌≤◌, true, [], Err, OnOk, IfOk};
+ghost use Rattle.std.specs.Prelude.{◌≡◌, ◌≤◌, true, [], OnOk, IfOk};
 ghost use Rattle.sm_defs.specs.Volume.{new_volume};
-ghost use Rattle.volume_store.specs.declared.faults.VolumeFault.{VolumeFault};
 
 use crate::plain::{Call, Kept, Plain};
 use sm_base::{Ident, Kind, SnapName, VolNo};
@@ -11,7 +10,9 @@ use sm_volume::{Head, View, Volume, VolumeFault};
 use std::alloc::Global;
 use std::process::Abort;
 use std::test::Fail;
-use volume_tools::{full, is_full, opened, snapshot};
+use volume_tools::{
+    full, make_writable, opened, read, remove, restart, revert, settle, snapshot, write,
+};
 
 // The length of a disk of six blocks.
 const SIX_BLOCKS: u64 = 25_751_552;
@@ -109,30 +110,27 @@ const AFTER_OPENING: [Row; 6] = [
     (Call::Write { at: 1, fill: 9 }, None),
 ];
 
-fn call_volume(alloc: Global, volume: &mut Volume<MemDisk>, call: &Call) -> Result<(), VolumeFault>
-    requires { volume.old.up ≡ true }
-    ensures { (result ≡ Err VolumeFault.DiskFault → ⊥) → volume.new.up ≡ true }
-{
+fn call_volume(
+    alloc: Global,
+    volume: &mut Volume<MemDisk>,
+    call: &Call,
+) -> Result<(), VolumeFault> {
     match call {
-        Call::Write { at, fill } => volume.write(*at, &full(*fill)),
-        Call::Cp => volume.cp(alloc),
-        Call::MakeWritable => volume.make_writable(alloc),
+        Call::Write { at, fill } => write(volume, *at, *fill),
+        Call::Cp => settle(alloc, volume),
+        Call::MakeWritable => make_writable(alloc, volume),
         Call::Snapshot { ident, name } => snapshot(alloc, volume, *ident, name),
-        Call::Remove { drops } => volume.remove(alloc, drops),
+        Call::Remove { drops } => remove(alloc, volume, drops),
         Call::Revert {
             ident,
             drop_newer,
             family,
-        } => volume.revert(alloc, *ident, *drop_newer, *family),
-        Call::Restart => restart(volume),
+        } => revert(alloc, volume, *ident, *drop_newer, *family),
+        Call::Restart => {
+            restart(volume)?;
+            Ok(())
+        }
     }
-}
-
-fn restart(volume: &mut Volume<MemDisk>) -> Result<(), VolumeFault>
-    ensures { (result ≡ Err VolumeFault.DiskFault → ⊥) → volume.new.up ≡ true }
-{
-    volume.restart()?;
-    Ok(())
 }
 
 fn compare_root<R: AllocGlobal + Abort>(rt: &R, root: &Root, plain: &Plain) {
@@ -151,29 +149,11 @@ fn compare_image<R: AllocGlobal + Abort>(
     volume: &mut Volume<MemDisk>,
     view: View,
     fills: [u8; 2],
-) -> Result<(), Fail>
-    requires { volume.old.up ≡ true }
-    ensures { OnOk result (volume.new.up ≡ true) }
-{
-    let (mut first, mut second) = (full(255), full(255));
-    volume.read(view, 0, &mut first)?;
-    volume.read(view, 1, &mut second)?;
-    assert!(rt; is_full(&first, fills[0]));
-    assert!(rt; is_full(&second, fills[1]));
-    Ok(())
-}
-
-fn compare_snapshots<R: AllocGlobal + Abort>(
-    rt: &R,
-    volume: &mut Volume<MemDisk>,
-    snapshots: &[Kept],
-) -> Result<(), Fail>
-    requires { volume.old.up ≡ true }
-    ensures { OnOk result (volume.new.up ≡ true) }
-{
-    for kept in snapshots {
-        compare_image(rt, volume, View::Of(kept.ident), kept.fills)?;
-    }
+) -> Result<(), Fail> {
+    let first = read(volume, view, 0)?;
+    let second = read(volume, view, 1)?;
+    assert_eq!(rt; first, Some(fills[0]));
+    assert_eq!(rt; second, Some(fills[1]));
     Ok(())
 }
 
@@ -182,14 +162,14 @@ fn compare<R: AllocGlobal + Abort>(
     rt: &R,
     volume: &mut Volume<MemDisk>,
     plain: &Plain,
-) -> Result<(), Fail>
-    requires { volume.old.up ≡ true }
-    ensures { OnOk result (volume.new.up ≡ true) }
-{
+) -> Result<(), Fail> {
     compare_root(rt, volume.root(), plain);
     assert_eq!(rt; volume.used() as usize, plain.used());
     compare_image(rt, volume, View::Active, plain.active)?;
-    compare_snapshots(rt, volume, &plain.snapshots)
+    for kept in plain.snapshots.as_slice() {
+        compare_image(rt, volume, View::Of(kept.ident), kept.fills)?;
+    }
+    Ok(())
 }
 
 fn run_row<R: AllocGlobal + Abort>(
@@ -197,18 +177,12 @@ fn run_row<R: AllocGlobal + Abort>(
     volume: &mut Volume<MemDisk>,
     plain: &mut Plain,
     row: &Row,
-) -> Result<(), Fail>
-    requires { volume.old.up ≡ true }
-    ensures { OnOk result (volume.new.up ≡ true) }
-{
+) -> Result<(), Fail> {
     let (call, refused) = row;
-    match call_volume(rt.alloc(), volume, call) {
-        Err(VolumeFault::DiskFault) => return Err("the disk failed")?,
-        Err(fault) => assert_eq!(rt; Some(fault), *refused, "{call:?}"),
-        Ok(()) => {
-            assert_eq!(rt; None, *refused, "{call:?}");
-            plain.assign(call)?;
-        }
+    let answer = call_volume(rt.alloc(), volume, call);
+    assert_eq!(rt; answer.err(), *refused, "{call:?}");
+    if refused.is_none() {
+        plain.assign(call)?;
     }
     compare(rt, volume, plain)
 }
@@ -218,10 +192,7 @@ fn run_rows<R: AllocGlobal + Abort>(
     volume: &mut Volume<MemDisk>,
     plain: &mut Plain,
     rows: &[Row],
-) -> Result<(), Fail>
-    requires { volume.old.up ≡ true }
-    ensures { OnOk result (volume.new.up ≡ true) }
-{
+) -> Result<(), Fail> {
     for row in rows {
         run_row(rt, volume, plain, row)?;
     }
@@ -258,7 +229,6 @@ fn land(volume: &mut Volume<MemDisk>, number: u32, fill: u8) -> Result<(), Volum
 fn adopt(alloc: Global, volume: &mut Volume<MemDisk>, head: Head) -> Result<(), Fail>
     requires up { volume.old.up ≡ true }
     requires volume { volume.old.volume ≡ new_volume [] 0 Kind.Dp 0 2 6 }
-    ensures up { OnOk result (volume.new.up ≡ true) }
 {
     let map = [1, 2].to_vec(alloc)?;
     volume.adopt(alloc, head, map, 9, &[])?;
@@ -266,9 +236,7 @@ fn adopt(alloc: Global, volume: &mut Volume<MemDisk>, head: Head) -> Result<(), 
 }
 
 // A destination that has taken over an image of two blocks.
-pub fn destination(alloc: Global) -> Result<Volume<MemDisk>, Fail>
-    ensures { IfOk result (λ v. v.up ≡ true) }
-{
+pub fn destination(alloc: Global) -> Result<Volume<MemDisk>, Fail> {
     let head = Head {
         ident: LANDED,
         name: SnapName::read(alloc, b"landed")?,

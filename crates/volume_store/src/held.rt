@@ -49,6 +49,13 @@ impl<D: Disk> Store<D> {
         let _ = self.state.root();
     }
 
+    /// Whether no call has failed on the disk since the volume was made, opened or restarted.
+    pub fn is_up(&self) -> bool
+        ensures { result ≡ self.now.up }
+    {
+        self.up
+    }
+
     // Makes the next state the volume's, by one commit.
     pub(crate) fn commit(&mut self, alloc: Global, next: State) -> Result<(), VolumeFault>
         requires up { self.old.up ≡ true }

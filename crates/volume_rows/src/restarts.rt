@@ -1,0 +1,73 @@
+// Calls of small volumes, and what a restart leaves of them.
+use sm_base::{Ident, Side, VolNo};
+use sm_disk::Disk;
+use sm_memdisk::{Image, MemDisk};
+use sm_volume::{View, Volume, VolumeFault};
+use std::alloc::Global;
+use std::test::Fail;
+use volume_tools::{
+    byte_of, opened, put_and_settle, restart, settle, small, snapshot, sync, write,
+};
+
+// The volume that is opened after a restart that leaves what was written.
+fn reopened(alloc: Global, volume: Volume<MemDisk>) -> Result<Volume<MemDisk>, VolumeFault> {
+    let mut disk = volume.into_disk();
+    disk.choose(Image::New);
+    disk.restart();
+    opened(alloc, disk)
+}
+
+#[test]
+fn a_write_takes_no_block_that_a_restart_needs(rt: HostRuntime) -> Result<(), Fail> {
+    let alloc = rt.alloc();
+    let mut volume = small(alloc)?;
+    put_and_settle(alloc, &mut volume, 7)?;
+    write(&mut volume, 0, 8)?;
+    assert_eq!(rt; volume.used(), 2);
+    assert_eq!(rt; write(&mut volume, 0, 9), Err(VolumeFault::NoSpace));
+    settle(alloc, &mut volume)?;
+    assert_eq!(rt; volume.used(), 1);
+    write(&mut volume, 0, 9)?;
+    let mut volume = reopened(alloc, volume)?;
+    assert_eq!(rt; byte_of(&mut volume, View::Active)?, Some(8));
+    Ok(())
+}
+
+// The fault of opening a volume's disk as that of another number.
+fn opened_as(alloc: Global, volume: Volume<MemDisk>, number: VolNo) -> Option<VolumeFault> {
+    match Volume::open(alloc, volume.into_disk(), number) {
+        Ok(_) => None,
+        Err((_, fault)) => Some(fault),
+    }
+}
+
+#[test]
+fn another_volumes_disk(rt: HostRuntime) -> Result<(), Fail> {
+    let volume = small(rt.alloc())?;
+    let fault = opened_as(rt.alloc(), volume, VolNo(1));
+    assert_eq!(rt; fault, Some(VolumeFault::OtherNumber { found: 0 }));
+    Ok(())
+}
+
+#[test]
+fn a_snapshot_keeps_its_blocks(rt: HostRuntime) -> Result<(), Fail> {
+    let alloc = rt.alloc();
+    let mut volume = small(alloc)?;
+    let first = Ident { origin: 0, seq: 2 };
+    write(&mut volume, 0, 7)?;
+    snapshot(alloc, &mut volume, first, b"s1")?;
+    write(&mut volume, 0, 8)?;
+    assert_eq!(rt; byte_of(&mut volume, View::Of(first))?, Some(7));
+    Ok(())
+}
+
+#[test]
+fn a_restart_goes_back_to_the_stable_image(rt: HostRuntime) -> Result<(), Fail> {
+    let mut volume = small(rt.alloc())?;
+    write(&mut volume, 0, 9)?;
+    sync(&mut volume)?;
+    assert_eq!(rt; restart(&mut volume)?, Side::Before);
+    assert_eq!(rt; byte_of(&mut volume, View::Active)?, Some(0));
+    assert_eq!(rt; volume.root().physical, 2);
+    Ok(())
+}

@@ -1,0 +1,58 @@
+// A commit that the disk stops, and the restart after it.
+use sm_base::Side;
+use sm_memdisk::{Image, MemDisk};
+use sm_volume::{View, Volume, VolumeFault};
+use std::alloc::Global;
+use std::test::Fail;
+use volume_tools::{TWO_BLOCKS, byte_of, created, put_and_settle, restart, settle, write};
+
+// A disk of two blocks that stops at this call, with this image of what is pending then after a restart.
+fn stopping(alloc: Global, call: u64, image: Image) -> Result<MemDisk, Fail> {
+    let mut disk = MemDisk::new(alloc, TWO_BLOCKS)?;
+    disk.stop_from(call);
+    disk.choose(image);
+    Ok(disk)
+}
+
+// A volume of one block on the disk whose stable image holds 7, after a write of 8.
+fn written(alloc: Global, disk: MemDisk) -> Result<Volume<MemDisk>, VolumeFault> {
+    let mut volume = created(alloc, disk)?;
+    put_and_settle(alloc, &mut volume, 7)?;
+    write(&mut volume, 0, 8)?;
+    Ok(volume)
+}
+
+// The same after a commit of 8 that the disk stopped at this call.
+fn torn(alloc: Global, call: u64, image: Image) -> Result<Volume<MemDisk>, Fail> {
+    let mut volume = written(alloc, stopping(alloc, call, image)?)?;
+    match settle(alloc, &mut volume) {
+        Err(VolumeFault::DiskFault) => Ok(volume),
+        _ => Err("the disk did not fail")?,
+    }
+}
+
+// The side that a restart answers then, and what the volume's block holds.
+fn restarted(alloc: Global, call: u64, image: Image) -> Result<(Side, Option<u8>), Fail> {
+    let mut volume = torn(alloc, call, image)?;
+    let side = restart(&mut volume)?;
+    Ok((side, byte_of(&mut volume, View::Active)?))
+}
+
+// Creating takes four calls of the disk, as each commit does, and a write takes one: so the commit of
+// 8 has the calls 11 to 14. The third of a commit writes the selector.
+#[test]
+fn a_restart_answers_which_state_is_selected(rt: HostRuntime) -> Result<(), Fail> {
+    for call in 11..15u64 {
+        for image in [Image::Old, Image::New] {
+            let is_new = call >= 13 && image == Image::New;
+            let wanted = if is_new {
+                (Side::After, Some(8))
+            } else {
+                (Side::Before, Some(7))
+            };
+            let given = restarted(rt.alloc(), call, image)?;
+            assert_eq!(rt; given, wanted, "{image:?} at the call {call}");
+        }
+    }
+    Ok(())
+}
