@@ -1,3 +1,4 @@
+use sm_base::NoMemory;
 use sm_fields::FieldFault;
 use std::alloc::{AllocError, AllocFailed};
 
@@ -32,6 +33,17 @@ impl From<AllocError> for RootFault {
     ghost from_gives = { λ _ e. e ≡ OutOfMemory };
 
     fn from(_: AllocError) -> RootFault {
+        RootFault::NoMemory
+    }
+}
+
+impl From<NoMemory> for RootFault {
+    ghost use Rattle.std.specs.Prelude.{◌≡◌};
+    ghost use Rattle.sm_root.specs.declared.fault.RootFault.TheVariants.{NoMemory as OutOfMemory};
+
+    ghost from_gives = { λ _ e. e ≡ OutOfMemory };
+
+    fn from(_: NoMemory) -> RootFault {
         RootFault::NoMemory
     }
 }

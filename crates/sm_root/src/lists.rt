@@ -6,49 +6,53 @@ use crate::root::RootSnapshot;
 use sm_base::NoMemory;
 use std::alloc::Global;
 use std::marker::Model;
+use std::sync::ArcSlice;
 
-/// At which physical number each block of an image lies, from 1; 0 is a hole.
+/// At which physical number each block of an image lies, from 1; 0 is a hole. Copies share the numbers.
 #[derive(Debug, Drop)]
 pub struct BlockMap {
-    numbers: Vec<u32>,
+    numbers: ArcSlice<u32>,
 }
 
 impl Model for BlockMap {
     ghost use Rattle.std.specs.Prelude.{List, ℕ};
+    ghost use Rattle.std.specs.Arc.{arc_slice_items};
 
     ghost Value = { List ℕ };
 
-    ghost view = { λ m. m.numbers.items };
+    ghost view = { λ m. arc_slice_items m.numbers };
 }
 
 impl BlockMap {
-    /// The map with these numbers. It takes no memory.
-    pub fn from_vec(numbers: Vec<u32>) -> BlockMap
-        ensures { result ≡ numbers.items }
+    /// The map with these numbers, which it takes over.
+    pub fn from_vec(numbers: Vec<u32>) -> Result<BlockMap, NoMemory>
+        ensures { IfOk result (λ map. map ≡ numbers.items) }
     {
-        BlockMap { numbers }
-    }
-
-    /// The numbers. It takes no memory.
-    pub fn into_vec(self) -> Vec<u32>
-        ensures { result.items ≡ self }
-    {
-        self.numbers
+        Ok(BlockMap {
+            numbers: ArcSlice::from_vec(numbers)?,
+        })
     }
 
     /// The numbers.
     pub fn as_slice(&self) -> &[u32]
         ensures { result.now ≡ self.now }
     {
-        &self.numbers
+        self.numbers.as_slice()
     }
 
-    /// An equal map.
-    pub fn copy(&self, alloc: Global) -> Result<BlockMap, NoMemory>
+    /// A list of the numbers.
+    pub fn to_vec(&self, alloc: Global) -> Result<Vec<u32>, NoMemory>
+        ensures { IfOk result (λ numbers. numbers.items ≡ self.now) }
+    {
+        Ok(Vec::from_slice(alloc, self.as_slice())?)
+    }
+
+    /// An equal map. It takes memory only where the owners of the numbers cannot be counted.
+    pub fn copy(&self) -> Result<BlockMap, NoMemory>
         ensures { IfOk result (λ map. map ≡ self.now) }
     {
         Ok(BlockMap {
-            numbers: Vec::from_slice(alloc, &self.numbers)?,
+            numbers: self.numbers.clone()?,
         })
     }
 }

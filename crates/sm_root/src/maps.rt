@@ -62,5 +62,6 @@ pub fn read_map(
         let number = read_entry(reader, place, table)?;
         numbers.push(number)?;
     }
-    Ok(BlockMap::from_vec(numbers))
+    let map = BlockMap::from_vec(numbers)?;
+    Ok(map)
 }

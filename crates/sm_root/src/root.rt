@@ -58,7 +58,7 @@ impl RootSnapshot {
             label: copy_label(alloc, &self.label)?,
             time: self.time,
             made: self.made,
-            map: self.map.copy(alloc)?,
+            map: self.map.copy()?,
         })
     }
 }
@@ -75,7 +75,7 @@ impl Root {
             logical: self.logical,
             physical: self.physical,
             next: self.next,
-            stable: self.stable.copy(alloc)?,
+            stable: self.stable.copy()?,
             snapshots: self.snapshots.copy(alloc)?,
         })
     }

@@ -4,21 +4,14 @@ use sm_disk::Disk;
 use sm_memdisk::{Image, MemDisk};
 use sm_volume::{View, Volume, VolumeFault};
 use std::alloc::Global;
+use std::process::Abort;
 use std::test::Fail;
 use volume_tools::{
     byte_of, opened, put_and_settle, restart, settle, small, snapshot, sync, write,
 };
 
-// The volume that is opened after a restart that leaves what was written.
-fn reopened(alloc: Global, volume: Volume<MemDisk>) -> Result<Volume<MemDisk>, VolumeFault> {
-    let mut disk = volume.into_disk();
-    disk.choose(Image::New);
-    disk.restart();
-    opened(alloc, disk)
-}
-
-#[test]
-fn a_write_takes_no_block_that_a_restart_needs(rt: HostRuntime) -> Result<(), Fail> {
+// One block and two physical ones: 7 and 8 are stable one after the other, and 9 is written over 8.
+fn written_over<R: AllocGlobal + Abort>(rt: &R) -> Result<Volume<MemDisk>, Fail> {
     let alloc = rt.alloc();
     let mut volume = small(alloc)?;
     put_and_settle(alloc, &mut volume, 7)?;
@@ -28,8 +21,28 @@ fn a_write_takes_no_block_that_a_restart_needs(rt: HostRuntime) -> Result<(), Fa
     settle(alloc, &mut volume)?;
     assert_eq!(rt; volume.used(), 1);
     write(&mut volume, 0, 9)?;
-    let mut volume = reopened(alloc, volume)?;
-    assert_eq!(rt; byte_of(&mut volume, View::Active)?, Some(8));
+    Ok(volume)
+}
+
+// The volume that is opened after a restart that leaves this image of what was pending.
+fn reopened(
+    alloc: Global,
+    volume: Volume<MemDisk>,
+    image: Image,
+) -> Result<Volume<MemDisk>, VolumeFault> {
+    let mut disk = volume.into_disk();
+    disk.choose(image);
+    disk.restart();
+    opened(alloc, disk)
+}
+
+#[test]
+fn a_write_takes_no_block_that_a_restart_needs(rt: HostRuntime) -> Result<(), Fail> {
+    for image in [Image::Old, Image::New, Image::Fill(0), Image::Fill(255)] {
+        let written = written_over(&rt)?;
+        let mut volume = reopened(rt.alloc(), written, image)?;
+        assert_eq!(rt; byte_of(&mut volume, View::Active)?, Some(8), "{image:?}");
+    }
     Ok(())
 }
 

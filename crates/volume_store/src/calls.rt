@@ -19,7 +19,7 @@ use crate::held::Store;
 use crate::next::{is_among, same, staying_of};
 use sm_base::{Ident, Kind, Label, NoMemory, SnapName};
 use sm_disk::Disk;
-use sm_root::RootSnapshot;
+use sm_root::{BlockMap, RootSnapshot};
 use std::alloc::Global;
 
 impl<D: Disk> Store<D> {
@@ -207,7 +207,7 @@ fn with_new(
 {
     let mut list = staying_of(alloc, drops, snapshots)?;
     if !is_among(drops, head.ident) {
-        let map = Vec::from_slice(alloc, map)?;
+        let map = BlockMap::from_vec(Vec::from_slice(alloc, map)?)?;
         list.push(head.copy(alloc)?.with_map(map))?;
     }
     Ok(list)

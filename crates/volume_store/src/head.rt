@@ -21,8 +21,8 @@ pub struct Head {
 
 impl Head {
     // The snapshot with this map.
-    pub(crate) fn with_map(self, map: Vec<u32>) -> RootSnapshot
-        ensures { result ≡ snapshot_of self map.items }
+    pub(crate) fn with_map(self, map: BlockMap) -> RootSnapshot
+        ensures { result ≡ snapshot_of self map }
     {
         RootSnapshot {
             ident: self.ident,
@@ -30,7 +30,7 @@ impl Head {
             label: self.label,
             time: self.time,
             made: self.made,
-            map: BlockMap::from_vec(map),
+            map,
         }
     }
 

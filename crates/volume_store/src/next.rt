@@ -72,10 +72,17 @@ impl State {
             logical,
             physical,
             next: 1,
-            stable: BlockMap::from_vec(holes(alloc, logical)?),
+            stable: BlockMap::from_vec(holes(alloc, logical)?)?,
             snapshots: Snapshots::from_vec(Vec::new(alloc)),
         };
         State::new(alloc, root, holes(alloc, logical)?)
+    }
+
+    // The active map as one that a root shares.
+    fn active_map(&self, alloc: Global) -> Result<BlockMap, NoMemory>
+        ensures { IfOk result (λ map. map ≡ self.now.active) }
+    {
+        BlockMap::from_vec(self.active_copy(alloc)?)
     }
 
     // A copy of the active map.
@@ -86,8 +93,8 @@ impl State {
     }
 
     // The root with these lists.
-    fn root_with(&self, stable: Vec<u32>, snapshots: Vec<RootSnapshot>) -> Root
-        ensures { result ≡ record self.now.root { stable = stable.items; snapshots = snapshots.items } }
+    fn root_with(&self, stable: BlockMap, snapshots: Vec<RootSnapshot>) -> Root
+        ensures { result ≡ record self.now.root { stable = stable; snapshots = snapshots.items } }
     {
         Root {
             number: self.root.number,
@@ -96,7 +103,7 @@ impl State {
             logical: self.root.logical,
             physical: self.root.physical,
             next: self.root.next,
-            stable: BlockMap::from_vec(stable),
+            stable,
             snapshots: Snapshots::from_vec(snapshots),
         }
     }
@@ -106,7 +113,7 @@ impl State {
         ensures { IfOk result (λ next. next ≡ settled self.now) }
     {
         let snapshots = self.root.snapshots.copy(alloc)?.into_vec();
-        let root = self.root_with(self.active_copy(alloc)?, snapshots);
+        let root = self.root_with(self.active_map(alloc)?, snapshots);
         let marks = self.marks.settled(alloc)?;
         self.following(alloc, root, self.active_copy(alloc)?, marks)
     }
@@ -126,8 +133,7 @@ impl State {
         ensures { IfOk result (λ next. next ≡ without self.now drops.now) }
     {
         let list = staying_of(alloc, drops, self.root.snapshots.as_slice())?;
-        let stable = self.root.stable.copy(alloc)?.into_vec();
-        let root = self.root_with(stable, list);
+        let root = self.root_with(self.root.stable.copy()?, list);
         let held = held_numbers(alloc, &root)?;
         let marks = self.marks.with_held(alloc, held)?;
         self.following(alloc, root, self.active_copy(alloc)?, marks)
@@ -143,8 +149,9 @@ impl State {
         head.told();
         let next = next_after_of(self.root.next, head.ident);
         let mut list = self.root.snapshots.copy(alloc)?.into_vec();
-        list.push(head.with_map(self.active_copy(alloc)?))?;
-        let mut root = self.root_with(self.active_copy(alloc)?, list);
+        let map = self.active_map(alloc)?;
+        list.push(head.with_map(map.copy()?))?;
+        let mut root = self.root_with(map, list);
         root.next = next;
         let marks = self.marks.snapped(alloc)?;
         self.following(alloc, root, self.active_copy(alloc)?, marks)
@@ -168,6 +175,7 @@ impl State {
     {
         head.told();
         let active = Vec::from_slice(alloc, &map)?;
+        let stable = BlockMap::from_vec(map)?;
         let root = Root {
             number: self.root.number,
             kind: self.root.kind,
@@ -175,7 +183,7 @@ impl State {
             logical: self.root.logical,
             physical: self.root.physical,
             next: self.root.next,
-            stable: BlockMap::from_vec(map),
+            stable,
             snapshots: Snapshots::from_vec(list),
         };
         let marks = self.adopted_marks(alloc, &root, drops)?;
@@ -234,11 +242,10 @@ impl State {
         requires { Among self.now.root.snapshots snapshot.now }
         ensures { IfOk result (λ next. next ≡ reverted self.now snapshot.now.map family (take count self.now.root.snapshots)) }
     {
-        let active = Vec::from_slice(alloc, snapshot.map.as_slice())?;
+        let active = snapshot.map.to_vec(alloc)?;
         let mut list = self.root.snapshots.copy(alloc)?.into_vec();
         list.truncate(count);
-        let stable = snapshot.map.copy(alloc)?.into_vec();
-        let mut root = self.root_with(stable, list);
+        let mut root = self.root_with(snapshot.map.copy()?, list);
         root.kind = Kind::Dp;
         root.family = family;
         self.remade(alloc, root, active)

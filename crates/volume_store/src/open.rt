@@ -156,6 +156,6 @@ fn found_state(alloc: Global, root: Root, number: VolNo, len: u64) -> Result<Sta
             found: root.number.0,
         });
     }
-    let active = root.stable.copy(alloc)?.into_vec();
+    let active = root.stable.to_vec(alloc)?;
     Ok(State::new(alloc, root, active)?)
 }

@@ -31,4 +31,4 @@ loop-place-preserved c =
 
 pub returns-clause-reads : goal.returns-clause-reads
 returns-clause-reads c =
-    rw c.from_vec.ensures (is_done (next_entry c.args.table.now) c.loop-place.numbers.items c.args.logical c.loop-place.place c.loop-place.reader (read (map_by_table c.args.table.now c.args.logical) c.args.reader.now) c.loop-place-test.false c.loop-place.invariant.so_far)
+    rw c.in_ok-map.ensures (is_done (next_entry c.args.table.now) c.loop-place.numbers.items c.args.logical c.loop-place.place c.loop-place.reader (read (map_by_table c.args.table.now c.args.logical) c.args.reader.now) c.loop-place-test.false c.loop-place.invariant.so_far)

@@ -11,7 +11,7 @@ pub following-requires-clause-maps : goal.following-requires-clause-maps
 following-requires-clause-maps c =
     let m = c.args.self.now in
     let drops = c.args.drops.now in
-    let stable : c.into_vec-stable.result.items ≡ m.root.stable = c.into_vec-stable.ensures ∙ c.in_ok-copy.ensures ∙ ap (λ (w : Maps). w.root.stable) c.self.view_is in
+    let stable = c.in_ok-copy.ensures ∙ ap (λ (w : Maps). w.root.stable) c.self.view_is in
     let list : c.in_ok-list.list.items ≡ staying drops m.root.snapshots = c.in_ok-list.ensures ∙ ap (staying drops) (c.as_slice.ensures ∙ ap (λ (w : Maps). w.root.snapshots) c.self.view_is) in
     let is : c.root_with-root.result ≡ (without m drops).root =
     c.root_with-root.ensures ∙ ap₂ (λ (xs : List ℕ) (l : List RootSnapshot). (let r : Root = record m.root { stable = xs; snapshots = l } in r)) stable list in
@@ -23,7 +23,7 @@ pub following-requires-clause-good : goal.following-requires-clause-good
 following-requires-clause-good c =
     let m = c.args.self.now in
     let drops = c.args.drops.now in
-    let stable : c.into_vec-stable.result.items ≡ m.root.stable = c.into_vec-stable.ensures ∙ c.in_ok-copy.ensures ∙ ap (λ (w : Maps). w.root.stable) c.self.view_is in
+    let stable = c.in_ok-copy.ensures ∙ ap (λ (w : Maps). w.root.stable) c.self.view_is in
     let list : c.in_ok-list.list.items ≡ staying drops m.root.snapshots = c.in_ok-list.ensures ∙ ap (staying drops) (c.as_slice.ensures ∙ ap (λ (w : Maps). w.root.snapshots) c.self.view_is) in
     let is : c.root_with-root.result ≡ (without m drops).root =
     c.root_with-root.ensures ∙ ap₂ (λ (xs : List ℕ) (l : List RootSnapshot). (let r : Root = record m.root { stable = xs; snapshots = l } in r)) stable list in
@@ -35,7 +35,7 @@ pub held_numbers-requires-clause-maps : goal.held_numbers-requires-clause-maps
 held_numbers-requires-clause-maps c =
     let m = c.args.self.now in
     let drops = c.args.drops.now in
-    let stable : c.into_vec-stable.result.items ≡ m.root.stable = c.into_vec-stable.ensures ∙ c.in_ok-copy.ensures ∙ ap (λ (w : Maps). w.root.stable) c.self.view_is in
+    let stable = c.in_ok-copy.ensures ∙ ap (λ (w : Maps). w.root.stable) c.self.view_is in
     let list : c.in_ok-list.list.items ≡ staying drops m.root.snapshots = c.in_ok-list.ensures ∙ ap (staying drops) (c.as_slice.ensures ∙ ap (λ (w : Maps). w.root.snapshots) c.self.view_is) in
     let is : c.root_with-root.result ≡ (without m drops).root =
     c.root_with-root.ensures ∙ ap₂ (λ (xs : List ℕ) (l : List RootSnapshot). (let r : Root = record m.root { stable = xs; snapshots = l } in r)) stable list in
@@ -47,7 +47,7 @@ pub held_numbers-requires-clause-good : goal.held_numbers-requires-clause-good
 held_numbers-requires-clause-good c =
     let m = c.args.self.now in
     let drops = c.args.drops.now in
-    let stable : c.into_vec-stable.result.items ≡ m.root.stable = c.into_vec-stable.ensures ∙ c.in_ok-copy.ensures ∙ ap (λ (w : Maps). w.root.stable) c.self.view_is in
+    let stable = c.in_ok-copy.ensures ∙ ap (λ (w : Maps). w.root.stable) c.self.view_is in
     let list : c.in_ok-list.list.items ≡ staying drops m.root.snapshots = c.in_ok-list.ensures ∙ ap (staying drops) (c.as_slice.ensures ∙ ap (λ (w : Maps). w.root.snapshots) c.self.view_is) in
     let is : c.root_with-root.result ≡ (without m drops).root =
     c.root_with-root.ensures ∙ ap₂ (λ (xs : List ℕ) (l : List RootSnapshot). (let r : Root = record m.root { stable = xs; snapshots = l } in r)) stable list in
