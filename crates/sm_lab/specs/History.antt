@@ -12,8 +12,8 @@ use Rattle.sm_model.specs.LegalRun.{Run, IsLegal as IsLegalRun}
 use Rattle.sm_model.specs.Asked.{Asked, asking, asked_of, report_events}
 use Rattle.sm_model.specs.Standing.{Stands}
 use Rattle.sm_model.specs.Drops.{Drops, NamedFor}
+use Rattle.step_laws.specs.Contents.{HasOrigin}
 use Rattle.sm_laws.specs.Early.{AllEarly, AllFaultless}
-use Rattle.sm_laws.specs.Laws.{HasOriginsContents}
 use Rattle.sm_lab.specs.Node.{start}
 
 -- from the empty world the entries lead to this world, with these deeds
@@ -64,7 +64,7 @@ EachDeed P history = (deeds : List Deed) (last : Up) (d : Deed) → LeadsTo hist
 
 -- each snapshot shown has the contents that its origin held
 abbrev pub ShowsOrigins : List Deed → Up → Type 0
-ShowsOrigins deeds world = (v : Volume) (s : Snapshot) → Stands world v s → HasOriginsContents start deeds s
+ShowsOrigins deeds world = (v : Volume) (s : Snapshot) → Stands world v s → HasOrigin start deeds s
 
 -- a snapshot is dropped exactly where the rules name it
 abbrev pub DropsAsNamed : Deed → Type 0

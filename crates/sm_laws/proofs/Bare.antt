@@ -2,19 +2,19 @@
 use Rattle.std.proofs.Common.{◌≡◌, List, [], sym, subst}
 use Rattle.sm_base.specs.declared.numbers.Kind.TheVariants.{Dp}
 use Rattle.sm_defs.specs.Words.{Among, KeysDiffer}
-use Rattle.sm_defs.specs.Volume.{Volume, Snapshot}
+use Rattle.sm_defs.specs.Volume.{Volume}
 use Rattle.sm_defs.specs.Relationship.{Relationship}
 use Rattle.sm_defs.specs.World.{Up}
 use Rattle.std.specs.Prelude.{ℕ}
 use Rattle.std.specs.List.{filter_map}
-use Rattle.sm_model.specs.Standing.{Stands, EachVolume}
+use Rattle.sm_model.specs.Standing.{EachVolume}
 use Rattle.sm_model.specs.Formed.{Formed}
 use Rattle.sm_model.specs.TagsFit.{TagsFit}
 use Rattle.sm_model.specs.CopiesAgree.{CopiesAgree}
 use Rattle.sm_model.specs.FamiliesAgree.{FamiliesAgree}
 use Rattle.sm_model.specs.Crossed.{destination_of, with_destination_half, transfer_number}
 use Rattle.sm_model.specs.DestinationsStand.{StandsAtSnapshot}
-use Rattle.sm_model.specs.NumbersStand.{NumberStands}
+use Rattle.sm_model.specs.NumbersStand.{NumbersStand}
 use Rattle.sm_model.specs.FamiliesStand.{IsFamily}
 use Rattle.sm_model.specs.Sound.{SoundUp}
 use Rattle.sm_laws.specs.Early.{IsBare}
@@ -26,7 +26,7 @@ pub record VolumesSound (w : Up) : Type 0 where
   pub copies_agree : CopiesAgree w
   pub families_agree : FamiliesAgree w
   pub destinations : EachVolume (λ v. v.kind ≡ Dp → StandsAtSnapshot v) w
-  pub numbers : (v : Volume) (s : Snapshot) → Stands w v s → NumberStands w s
+  pub numbers_stand : NumbersStand w
   pub families : EachVolume (λ v. IsFamily w v.family) w
 
 none_among : {X : Type 0} (xs : List X) (x : X) → xs ≡ [] → ¬ Among xs x
@@ -46,7 +46,7 @@ sound_if_bare w b s = record {
   };
   destinations_stand = record { volumes = s.destinations; bases = λ r m. absurd (none_among w.relations r b.relations m) };
   legs_fit = λ r t m. absurd (none_among w.relations r b.relations m);
-  numbers_stand = record { snapshots = s.numbers; unmade = λ r t m. absurd (none_among w.relations r b.relations m) };
+  numbers_stand = s.numbers_stand;
   families_stand = record { given = s.families; transfers = λ r t m. absurd (none_among w.relations r b.relations m) };
   legs_kept = λ r t m. absurd (none_among w.relations r b.relations m);
   transfers_stand = λ r t m. absurd (none_among w.relations r b.relations m);

@@ -33,6 +33,6 @@ empty_sound disks = sound_if_bare (empty_world disks) (empty_bare disks) (record
   copies_agree = λ v u s t a. absurd a.0;
   families_agree = λ v u s t a. absurd a.0;
   destinations = λ v m. absurd m;
-  numbers = λ v s a. absurd a.0;
+  numbers_stand = record { snapshots = λ v s a. absurd a.0; unmade = λ r t m. absurd m };
   families = λ v m. absurd m;
 })

@@ -1,5 +1,5 @@
 -- What early entries do.
-use Rattle.std.proofs.Common.{◌≡◌, ◌++◌, List, [], ◌∷◌, subst}
+use Rattle.std.proofs.Common.{◌++◌, List, [], ◌∷◌}
 use Rattle.std.specs.List.{AllByRecursion}
 use Rattle.sm_defs.specs.World.{Up}
 use Rattle.sm_model.specs.declared.event.Event.{Event}
@@ -52,15 +52,7 @@ refused_quiet w reply heads h = h
 refused_quiet w reply (lists volume) h = h
 refused_quiet w reply (digests volume place) h = h
 
--- in a world that the deed began in
-pub deed_done_in : {w : Up} {e : Event} (d : Deed) → IsEarly e → d.old ≡ w → IsDeed e d → IsDone (answer w e) d
-deed_done_in {w} {e} d y o h = subst (λ x. IsDone (answer x e) d) o (deed_done d y h)
-
--- a property of all of a list holds of each part
-pub all_front : {X : Type 0} (P : X → Type 0) (xs ys : List X) → AllByRecursion P (xs ++ ys) → AllByRecursion P xs
-all_front P [] ys h = tt
-all_front P (x ∷ xs) ys h = (h.0, all_front P xs ys h.1)
-
+-- a property of the parts of a list holds of all of it
 pub all_joined : {X : Type 0} (P : X → Type 0) (xs ys : List X) → AllByRecursion P xs → AllByRecursion P ys → AllByRecursion P (xs ++ ys)
 all_joined P [] ys h k = k
 all_joined P (x ∷ xs) ys h k = (h.0, all_joined P xs ys h.1 k)

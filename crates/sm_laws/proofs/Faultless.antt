@@ -16,7 +16,9 @@ use Rattle.sm_model.specs.Answer.{answer}
 use Rattle.sm_model.specs.LegalRun.{Counts, Rises, FaultsRise}
 use Rattle.sm_laws.specs.Early.{IsEarly, creates, writes, snaps, reads, heads, lists, digests, IsFaultless, AllFaultless}
 use Rattle.sm_laws.specs.Listed.{IsListed, IsTooSmall, LacksName}
-use Rattle.sm_laws.proofs.Replies.{reached_plain, refusal_listed}
+use Rattle.transfer_laws.proofs.Asc.{among_each}
+use Rattle.step_laws.proofs.Deeds.{ok_is_no_refusal}
+use Rattle.sm_laws.proofs.Listing.{refusal_listed}
 
 -- ---- answers
 
@@ -24,11 +26,6 @@ tells_disk : Refusal → Bool
 tells_disk (refusals.DiskFault disk count) = true
 tells_disk (refusals.Down disk) = true
 tells_disk refusal = false
-
-one_of : {X : Type 0} (P : X → Type 0) (xs : List X) (x : X) → AllByRecursion P xs → Among xs x → P x
-one_of P [] x h m = absurd m
-one_of P (y ∷ ys) x h (inl e) = subst P (sym e) h.0
-one_of P (y ∷ ys) x h (inr m) = one_of P ys x h.1 m
 
 tells_none : List Refusal → Type 0
 tells_none rs = AllByRecursion (λ r. tells_disk r ≡ false) rs
@@ -43,7 +40,7 @@ name_tells_none name r (given, is, e) = rw e refl
 
 among_tells_none : (rs : List Refusal) (r : Refusal) → tells_none rs → Among rs r → tells_disk r ≡ false
 unfolding tells_none
-among_tells_none rs r h m = one_of (λ r. tells_disk r ≡ false) rs r h m
+among_tells_none rs r h m = among_each (λ r. tells_disk r ≡ false) rs r h m
 
 -- no refusal that is listed tells of a disk that failed
 listed_tells_none : {e : Event} (r : Refusal) → IsEarly e → IsListed e r → tells_disk r ≡ false
@@ -77,11 +74,10 @@ refused_faultless w e reply r y i k =
     }
 
 pub done_faultless : (w : Up) (e : Event) (reached : Reached) (reply : Reply) → answer w e ≡ Some (Ok reached) → Tells reached.reply reply → IsFaultless reply
-done_faultless w e reached reply i t =
-    let none = reached_plain w e reached i reply t in record {
-      no_fault = λ disk count. none (refusals.DiskFault disk count);
-      is_up = λ disk. none (refusals.Down (record { 0 = disk }));
-    }
+done_faultless w e reached reply i t = record {
+  no_fault = λ disk count. ok_is_no_refusal w e reached reply (refusals.DiskFault disk count) i t;
+  is_up = λ disk. ok_is_no_refusal w e reached reply (refusals.Down (record { 0 = disk })) i t;
+}
 
 -- ---- entries
 

@@ -1,5 +1,5 @@
 -- Entries that answer a refusal.
-use Rattle.std.proofs.Common.{◌≡◌, List, [], Option, Some, None, Ok, Err, refl, sym, subst, ◌∙◌}
+use Rattle.std.proofs.Common.{◌≡◌, List, Option, Some, None, Ok, Err, refl, sym, subst, ◌∙◌}
 use Rattle.sm_base.specs.declared.numbers.Side.{Side}
 use Rattle.sm_base.specs.declared.refusal.Refusal.{Refusal}
 use Rattle.sm_defs.specs.World.{Up}
@@ -14,7 +14,8 @@ use Rattle.sm_model.specs.World.{World, Deed}
 use Rattle.sm_model.specs.LegalRun.{IsRefused, IsQuiet, Fits, done, quiet, failed, down_still, restart_up, restart_before, restart_after, restart_failed_up, restart_failed}
 use Rattle.sm_laws.specs.Early.{IsFaultless}
 use Rattle.sm_laws.specs.Listed.{IsListed}
-use Rattle.sm_laws.proofs.Replies.{deed_plain, refusal_listed}
+use Rattle.step_laws.proofs.Deeds.{deeds_are_no_refusals}
+use Rattle.sm_laws.proofs.Listing.{refusal_listed}
 
 same_refusal : (r s : Refusal) → replies.Refused r ≡ replies.Refused s → r ≡ s
 same_refusal r s e = cc
@@ -35,14 +36,13 @@ quiet_listed w e reply r h f = refused_listed w e (answer w e) reply r refl h f
 not_done : (reply : Reply) (r : Refusal) → reply ≡ replies.Done → ¬ (reply ≡ replies.Refused r)
 not_done reply r k f = cc
 
-pub refused_entry : {old new : World} {e : Entry} {sides left : List Side} {ds : List Deed} (r : Refusal) → IsFaultless e.reply → Fits old e sides ds new left → e.reply ≡ replies.Refused r →
-    IsListed e.event r × (new ≡ old) × (ds ≡ []) × (left ≡ sides)
-refused_entry r n (done {e = e} d o a b c i) f = absurd (deed_plain e.event d i r (c ∙ f))
-refused_entry r n (quiet {w = w} {e = e} i) f = (quiet_listed w e.event e.reply r i f, refl, refl, refl)
-refused_entry r n (failed d disk count o a b i c k) f = absurd (n.no_fault disk count k)
-refused_entry r n (down_still {disk = disk} m k) f = absurd (n.is_up disk k)
-refused_entry r n (restart_up {e = e} side h k) f = absurd (not_done e.reply r k f)
-refused_entry r n (restart_before {e = e} h k) f = absurd (not_done e.reply r k f)
-refused_entry r n (restart_after {e = e} h k) f = absurd (not_done e.reply r k f)
-refused_entry r n (restart_failed_up disk count h k) f = absurd (n.no_fault disk count k)
-refused_entry r n (restart_failed disk count h k) f = absurd (n.no_fault disk count k)
+pub entry_listed : {old new : World} {e : Entry} {sides left : List Side} {ds : List Deed} (r : Refusal) → IsFaultless e.reply → Fits old e sides ds new left → e.reply ≡ replies.Refused r → IsListed e.event r
+entry_listed r n (done {e = e} d o a b c i) f = absurd (deeds_are_no_refusals e.event d r i (c ∙ f))
+entry_listed r n (quiet {w = w} {e = e} i) f = quiet_listed w e.event e.reply r i f
+entry_listed r n (failed d disk count o a b i c k) f = absurd (n.no_fault disk count k)
+entry_listed r n (down_still {disk = disk} m k) f = absurd (n.is_up disk k)
+entry_listed r n (restart_up {e = e} side h k) f = absurd (not_done e.reply r k f)
+entry_listed r n (restart_before {e = e} h k) f = absurd (not_done e.reply r k f)
+entry_listed r n (restart_after {e = e} h k) f = absurd (not_done e.reply r k f)
+entry_listed r n (restart_failed_up disk count h k) f = absurd (n.no_fault disk count k)
+entry_listed r n (restart_failed disk count h k) f = absurd (n.no_fault disk count k)

@@ -1,14 +1,10 @@
 -- How legal runs are put together and taken apart.
-use Rattle.std.proofs.Common.{◌≡◌, List, [], ◌∷◌, ◌++◌, refl, sym, ap, subst, ◌∙◌, append_assoc}
+use Rattle.std.proofs.Common.{◌≡◌, List, [], ◌∷◌, ◌++◌, refl, sym, ap, subst, ◌∙◌, append_assoc, append-nil}
 use Rattle.sm_base.specs.declared.numbers.Side.{Side}
 use Rattle.sm_base.specs.declared.numbers.Side.TheVariants.{Before, After}
 use Rattle.sm_model.specs.declared.reply.Entry.{Entry}
 use Rattle.sm_model.specs.World.{World, Deed}
 use Rattle.sm_model.specs.LegalRun.{Fits, done, quiet, failed, down_still, restart_up, restart_before, restart_after, restart_failed_up, restart_failed, IsAsked, Run}
-
-pub append_nil : {X : Type 0} (xs : List X) → xs ++ [] ≡ xs
-append_nil [] = refl
-append_nil (x ∷ xs) = ap (λ ys. x ∷ ys) (append_nil xs)
 
 -- further sides stay behind those that an entry takes
 pub fits_before : {w new : World} {e : Entry} {sides left : List Side} {ds : List Deed} (more : List Side) → Fits w e sides ds new left → Fits w e (sides ++ more) ds new (left ++ more)
@@ -25,11 +21,6 @@ fits_before more (restart_failed disk count r e) = restart_failed disk count r e
 pub nil : (w : World) → Run w [] [] [] w
 nil w = (refl, refl, refl)
 
--- one entry in front
-pub cons : (old mid new : World) (e : Entry) (es : List Entry) (sides left : List Side) (first later : List Deed) →
-    IsAsked old e.event → Fits old e sides first mid left → Run mid es left later new → Run old (e ∷ es) sides (first ++ later) new
-cons old mid new e es sides left first later asked f r = (first, later, left, mid, asked, f, r, refl)
-
 -- one run after another
 pub append : (old mid new : World) (es fs : List Entry) (sides more : List Side) (ds later : List Deed) →
     Run old es sides ds mid → Run mid fs more later new → Run old (es ++ fs) (sides ++ more) (ds ++ later) new
@@ -37,22 +28,10 @@ append old mid new [] fs sides more ds later (a, b, c) r = rw (a, b) (subst (λ 
 append old mid new (e ∷ es) fs sides more ds later (first, rest, left, next, asked, f, r, q) s =
     (first, rest ++ later, left ++ more, next, asked, fits_before more f, append next mid new es fs left more rest later r s, rw q (append_assoc first rest later))
 
-one : (w new : World) (e : Entry) (sides : List Side) (ds : List Deed) → IsAsked w e.event → Fits w e sides ds new [] → Run w (e ∷ []) sides ds new
-one w new e sides ds asked f = (ds, [], [], new, asked, f, nil new, sym (append_nil ds))
-
--- one entry behind, where sides are left over by none
-pub snoc_sides : (old mid new : World) (es : List Entry) (e : Entry) (sides more : List Side) (ds first : List Deed) →
-    Run old es sides ds mid → IsAsked mid e.event → Fits mid e more first new [] → Run old (es ++ e ∷ []) (sides ++ more) (ds ++ first) new
-snoc_sides old mid new es e sides more ds first r asked f = append old mid new es (e ∷ []) sides more ds first r (one mid new e more first asked f)
-
 -- one entry behind, without restarts
 pub snoc : (old mid new : World) (es : List Entry) (e : Entry) (ds first : List Deed) →
     Run old es [] ds mid → IsAsked mid e.event → Fits mid e [] first new [] → Run old (es ++ e ∷ []) [] (ds ++ first) new
-snoc old mid new es e ds first r asked f = snoc_sides old mid new es e [] [] ds first r asked f
-
--- a run of one entry, without restarts
-pub single : (w new : World) (e : Entry) (ds : List Deed) → IsAsked w e.event → Fits w e [] ds new [] → Run w (e ∷ []) [] ds new
-single w new e ds asked f = one w new e [] ds asked f
+snoc old mid new es e ds first r asked f = append old mid new es (e ∷ []) [] [] ds first r (first, [], [], new, asked, f, nil new, sym (append-nil first))
 
 -- the sides that an entry takes, and what is left of them
 pub record Taking (w new : World) (e : Entry) (sides left : List Side) (ds : List Deed) : Type 0 where

@@ -1,11 +1,67 @@
-//! Laws of the definitions: what holds of every answer and of every legal run.
+//! Laws of the definitions: what holds of every answer, every step and every legal run.
 //!
 //! Each law is what a function without code ensures. The crate has no other code; its lemmas in
-//! `proofs/` are for the crates above. Some laws are so far of early events alone, which `specs/Early`
-//! names.
+//! `proofs/` are for the crates above. Laws of what a transfer rests on stand in `transfer_laws`, and laws
+//! of answers, steps, deeds and runs over all events in `step_laws`; both are handed on here. That runs
+//! stay sound is so far proved of early events alone, which `specs/Early` names.
 #![tactic(auto)]
 
-ghost use Rattle.sm_laws.specs.Laws.{EmptyWorldIsSound, EntriesKeepSoundness, RunsKeepSoundness, EachWorldIsSound, CopiesHaveTheirOriginsContents, CopiesHadTheirOriginsContents, DropsAreNamed, NeededStays, TextIsDetermined, RefusalsAreListed, OkIsNoRefusal, RefusalsChangeNothing, FirstVolumeIsMade};
+ghost use Rattle.sm_laws.specs.Laws.{EmptyWorldIsSound, EntriesKeepSoundness, RunsKeepSoundness, EachWorldIsSound, DeedsBeginSound, TextIsDetermined, RefusalsAreListed, EntriesAreRefusedAsListed, FirstVolumeIsMade};
+
+// Refusals leave the world, and nothing else is told as one.
+pub use step_laws::{
+    deeds_are_no_refusals, ok_is_no_refusal, refusals_leave_the_world, steps_are_no_refusals,
+};
+
+// Tables and the report leave the world, and so does opening a world again.
+pub use step_laws::{opening_again_changes_nothing, showing_leaves_the_world};
+
+// The step that this program chooses is due, and none is found exactly where none is due.
+pub use step_laws::{
+    chosen_is_due, deeds_keep_ends, idle_is_exact, restarts_keep_ends, running_transfers_have_steps,
+};
+
+// What is needed stays, and what goes is what the rules name.
+pub use step_laws::{
+    answers_drop_what_is_named, answers_keep_the_needed, deeds_keep_the_needed, drops_are_named,
+    restarts_keep_snapshots, runs_do_deeds, runs_drop_what_is_named, runs_keep_the_needed,
+    steps_keep_the_needed,
+};
+
+// Parts of soundness that are kept.
+pub use step_laws::{
+    answers_keep_copies, answers_keep_families, answers_keep_form, answers_keep_tags,
+    deeds_keep_copies, deeds_keep_family_numbers, deeds_keep_form, deeds_keep_numbers,
+    deeds_keep_tags, restarts_keep_copies, restarts_keep_families, restarts_keep_family_numbers,
+    restarts_keep_form, restarts_keep_numbers, restarts_keep_tags, steps_keep_copies,
+    steps_keep_tags,
+};
+
+// Each snapshot has the contents that its origin held.
+pub use step_laws::{
+    contents_are_the_origins, deeds_are_traced, identities_are_made_once, origins_stay,
+};
+
+// What a leg costs, and what lands of it.
+pub use transfer_laws::{
+    free_numbers_ascend, landing_has_the_legs_bytes, landing_overwrites_nothing,
+    landing_rests_on_maps, mirror_costs_nothing, missing_blocks_take_numbers_in_order,
+    missing_places_are_these, missing_tags_are_determined, missing_tags_are_these,
+    vault_costs_nothing,
+};
+
+// What retention and pruning keep, and what is needed on both sides.
+pub use transfer_laws::{
+    bases_are_needed, keep_reached_names_the_first, legs_are_needed, pruning_drops_exactly,
+    pruning_thins, retention_begins_at_the_newest, retention_keeps_by_reason,
+    retention_keeps_the_needed, retention_keeps_the_newest, retention_thins, rules_keep_no_more,
+};
+
+// Which snapshot is common, and which are sent.
+pub use transfer_laws::{
+    common_is_the_newest, legs_are_new, mirrors_of_all_send_all, nothing_is_common,
+    reserved_for_writable_sources, vaults_send_by_rule,
+};
 
 /// The world in which nothing was created is sound.
 pub fn empty_world_is_sound()
@@ -31,25 +87,10 @@ pub fn each_world_is_sound()
     ensures { EachWorldIsSound }
 {}
 
-/// After a legal run of early events from a sound world without relationships and policies each snapshot
-/// on each volume has the contents that its origin held when it was taken.
-pub fn copies_have_their_origins_contents()
-    ensures { CopiesHaveTheirOriginsContents }
-{}
-
-/// So had each snapshot in each world on the way.
-pub fn copies_had_their_origins_contents()
-    ensures { CopiesHadTheirOriginsContents }
-{}
-
-/// A deed of a legal run of early events drops exactly the snapshots that the rules name for it.
-pub fn drops_are_named()
-    ensures { DropsAreNamed }
-{}
-
-/// No deed of a legal run of early events drops a snapshot that some relationship needs.
-pub fn needed_stays()
-    ensures { NeededStays }
+/// Each deed of a legal run of early events from a sound world without relationships and policies begins
+/// in a sound world, so that each law of such runs that is handed on here holds of it.
+pub fn deeds_begin_sound()
+    ensures { DeedsBeginSound }
 {}
 
 /// What a history was asked for, its start and the sides of its restarts determine its text and its
@@ -63,15 +104,9 @@ pub fn refusals_are_listed()
     ensures { RefusalsAreListed }
 {}
 
-/// What is not refused is never answered by a refusal.
-pub fn ok_is_no_refusal()
-    ensures { OkIsNoRefusal }
-{}
-
-/// An entry that answers a refusal, but of a disk that failed, is refused as listed, leaves the world
-/// and the sides of restarts, and is no deed.
-pub fn refusals_change_nothing()
-    ensures { RefusalsChangeNothing }
+/// So is each entry that answers a refusal, but of a disk that failed or a node that is down.
+pub fn entries_are_refused_as_listed()
+    ensures { EntriesAreRefusedAsListed }
 {}
 
 /// Where nothing was created, a volume is made on any disk that is long enough.

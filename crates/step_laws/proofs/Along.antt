@@ -42,7 +42,7 @@ known_go i None (Some d) q image e = e
 known_go i None None q image e = absurd (cc)
 
 -- what is known stays
-origin_stays : (start : Up) (ds es : List Deed) (i : Ident) (image : Image) → origin start ds i ≡ Some image → origin start (ds ++ es) i ≡ Some image
+pub origin_stays : (start : Up) (ds es : List Deed) (i : Ident) (image : Image) → origin start ds i ≡ Some image → origin start (ds ++ es) i ≡ Some image
 origin_stays start ds es i image e = ap (origin_from i (lowest_copy i start.volumes)) (find_joined (makes i) ds es) ∙ known_go i (lowest_copy i start.volumes) (find (makes i) ds) (find (makes i) es) image e
 
 found_last : (i : Ident) (d : Deed) (b : Bool) → makes i d ≡ b → cond b (Some d) None ≡ cond (makes i d) (Some d) None

@@ -27,7 +27,7 @@ use Rattle.transfer_laws.proofs.Lists.{among_append, among_right, has_from_copy}
 use Rattle.step_laws.proofs.Walk.{going}
 use Rattle.step_laws.proofs.Members.{among_get_or, found_within, length_set, set_at}
 use Rattle.step_laws.proofs.Thinned.{all_kept, filter_thins, thinned_among}
-use Rattle.step_laws.proofs.Frames.{stands_set}
+use Rattle.step_laws.proofs.Frames.{stands_set, stands_push}
 use Rattle.step_laws.proofs.Copies.{ComesFrom, AllCome, stays}
 use Rattle.step_laws.proofs.Fresh.{client_fresh}
 use Rattle.step_laws.proofs.Spent.{Spent, by_client, by_transfer as by_transfer_number}
@@ -35,7 +35,7 @@ use Rattle.step_laws.proofs.Parties.{relation_stands, source_stands, destination
 use Rattle.step_laws.proofs.DueCases.{Ahead, IsDue, due_revert, due_finish, due_settle, due_prepare, due_prune, due_publish, due_checkpoint, due_ship, kind_is_due}
 use Rattle.step_laws.proofs.Landing.{reverted_thins, published_thins, landing_same}
 use Rattle.step_laws.proofs.Changes as answers
-use Rattle.step_laws.proofs.Changes.{IsChange, IsAnswer, VolumeAt}
+use Rattle.step_laws.proofs.Changes.{IsChange, IsAnswer, WritableAt}
 use Rattle.step_laws.proofs.Deeds.{IsAnswered, deed_cases}
 
 -- the snapshot is new, of what was active on its origin
@@ -57,19 +57,11 @@ pub data Brings (w : Up) (Given : Type 0) (reply : Reply) (u : Up) : Type 0 wher
 
 -- a volume's list was thinned, and nothing else came
 pub come_thinned : (w : Up) (i : ℕ) (v u : Volume) → Among w.volumes v → Thinned u.snapshots v.snapshots → AllCome w (with_volume w i u)
-come_thinned w i v u m t = stands_set (ComesFrom w) w i u (λ s n. stays w v s (m, thinned_among t s n)) (stays w)
-
-come_pushed : (w : Up) (v : Volume) → v.snapshots ≡ [] → AllCome w (record w { volumes = w.volumes ++ v ∷ [] })
-come_pushed w v e u s (m, n) = go (among_append w.volumes (v ∷ []) u m)
-  where
-    go : Among w.volumes u ⊎ Among (v ∷ []) u → ComesFrom w s
-    go (inl k) = stays w u s (k, n)
-    go (inr (inl f)) = absurd (subst (λ ss. Among ss s) (ap (λ y. y.snapshots) f ∙ e) n)
-    go (inr (inr k)) = absurd k
+come_thinned w i v u m t = stands_set (λ _. ComesFrom w) w i u (λ s n. stays w v s (m, thinned_among t s n)) (stays w)
 
 pub of_change : (w u : Up) (ev : Event) → IsChange w ev u → AllCome w u
 of_change w u ev (answers.elsewhere other e f g j) = λ v s h. stays w v s (subst (λ vs. Among vs v) e h.0, h.1)
-of_change w u ev (answers.creates path disk kind number logical physical) = come_pushed w _ refl
+of_change w u ev (answers.creates path disk kind logical physical) = stands_push (λ _. ComesFrom w) w _ refl (stays w)
 of_change w u ev (answers.writes v a block fill) = come_thinned w v.at v.item _ a.among (all_kept v.item.snapshots)
 of_change w u ev (answers.drops path name so v is a s named free) = come_thinned w v.at v.item _ a.among (filter_thins _ v.item.snapshots)
 of_change w u ev (answers.points v a) = come_thinned w v.at v.item _ a.among (all_kept v.item.snapshots)
@@ -81,7 +73,7 @@ of_change w u ev (answers.starts r a q f) = stays w
 
 -- one snapshot came last to a volume
 come_one : (w : Up) (i : ℕ) (v u : Volume) (f : Snapshot) → Among w.volumes v → u.snapshots ≡ v.snapshots ++ f ∷ [] → (z : Volume) (s : Snapshot) → Stands (with_volume w i u) z s → ComesFrom w s ⊎ (s ≡ f)
-come_one w i v u f m e = stands_set (λ s. ComesFrom w s ⊎ (s ≡ f)) w i u (λ s n. each s (among_append v.snapshots (f ∷ []) s (subst (λ ss. Among ss s) e n))) (λ z s h. inl (stays w z s h))
+come_one w i v u f m e = stands_set (λ _ s. ComesFrom w s ⊎ (s ≡ f)) w i u (λ s n. each s (among_append v.snapshots (f ∷ []) s (subst (λ ss. Among ss s) e n))) (λ z s h. inl (stays w z s h))
   where
     each : (s : Snapshot) → Among v.snapshots s ⊎ Among (f ∷ []) s → ComesFrom w s ⊎ (s ≡ f)
     each s (inl n) = inl (stays w v s (m, n))
@@ -89,7 +81,7 @@ come_one w i v u f m e = stands_set (λ s. ComesFrom w s ⊎ (s ≡ f)) w i u (�
     each s (inr (inr n)) = absurd n
 
 -- a client's number is above all that were given, and the next one is above it
-client_unspent : (w : Up) (v : Found Volume) → VolumeAt w v → ¬ (Spent w (client_ident v.at v.item))
+client_unspent : (w : Up) (v : Found Volume) → WritableAt w v → ¬ (Spent w (client_ident v.at v.item))
 client_unspent w v a (by_client c e l h) = let n : (volume_at w v.at).next ≡ v.item.next = ap (λ y. y.next) a.at in omega arith
 client_unspent w v a (by_transfer_number number e l h) = omega arith
 
@@ -97,7 +89,7 @@ client_spent : (w : Up) (v : Found Volume) (name : List ℕ) (label : Option (Li
 client_spent w v name label l = by_client v.item.next refl (rw (length_set w.volumes v.at (snapped v.at w.clock v.item name label)) l)
     (rw (set_at w.volumes v.at (snapped v.at w.clock v.item name label) no_volume l) (omega arith))
 
-client_number : (w : Up) (ev : Event) (v : Found Volume) (path name : List ℕ) (label : Option (List ℕ)) → SoundUp w → VolumeAt w v → v.at < length w.volumes → ev ≡ events.Snap path name label →
+client_number : (w : Up) (ev : Event) (v : Found Volume) (path name : List ℕ) (label : Option (List ℕ)) → SoundUp w → WritableAt w v → v.at < length w.volumes → ev ≡ events.Snap path name label →
     HasNumber (with_volume w v.at (snapped v.at w.clock v.item name label)) (client_snapshot v.at w.clock v.item name label) (IsGiven ev)
 unfolding IsGiven
 client_number w ev v path name label s a l so = record {
@@ -114,7 +106,7 @@ client_number w ev v path name label s a l so = record {
   apart = λ r t m e z lacks i. (let q : 2 * v.item.next ≡ 2 * t.number + 1 = ap (λ j. j.seq) i in omega arith);
 }
 
-of_snap : (w : Up) (ev : Event) (v : Found Volume) (path name : List ℕ) (label : Option (List ℕ)) → SoundUp w → VolumeAt w v → (p : Volume → Bool) → found p w.volumes ≡ Some v → ev ≡ events.Snap path name label →
+of_snap : (w : Up) (ev : Event) (v : Found Volume) (path name : List ℕ) (label : Option (List ℕ)) → SoundUp w → WritableAt w v → (p : Volume → Bool) → found p w.volumes ≡ Some v → ev ≡ events.Snap path name label →
     (reply : Reply) → made_by reply ≡ Some (client_snapshot v.at w.clock v.item name label).ident → Brings w (IsGiven ev) reply (with_volume w v.at (snapped v.at w.clock v.item name label))
 of_snap w ev v path name label s a p is so reply e =
     let l : v.at < length w.volumes = found_within p w.volumes v is in
@@ -175,7 +167,7 @@ reserved_number w k x s r =
     }
 
 of_publish : (w : Up) (k : ℕ) (x : Running) (leg : Snapshot) → SoundUp w → IsRunning w k x → Ahead x leg → AllCome w (with_volume w x.relation.destination (published w x leg))
-of_publish w k x leg s r a = stands_set (ComesFrom w) w x.relation.destination (published w x leg)
+of_publish w k x leg s r a = stands_set (λ _. ComesFrom w) w x.relation.destination (published w x leg)
     (λ t m. each t (among_append x.destination.snapshots (arrived x leg ∷ []) t (thinned_among (published_thins w x (arrived x leg)) t m))) (stays w)
   where
     there : Among x.source.snapshots leg

@@ -1,6 +1,7 @@
 -- Each way in which an event changes a world, one case for each.
-use Rattle.std.proofs.Common.{◌≡◌, ◌≢◌, ℕ, List, [], Bool, Option, Some, None, Ok}
+use Rattle.std.proofs.Common.{◌≡◌, ◌≢◌, ℕ, List, [], length, Bool, Option, Some, None, Ok}
 use Rattle.sm_base.specs.declared.numbers.Kind.{Kind}
+use Rattle.sm_base.specs.declared.numbers.Kind.TheVariants.{Rw}
 use Rattle.sm_base.specs.declared.refusal.Refusal.{Refusal}
 use Rattle.sm_model.specs.declared.event.Event.{Event}
 use Rattle.sm_model.specs.declared.event.Event.TheVariants as events
@@ -21,6 +22,12 @@ use Rattle.sm_model.specs.OfTransfers as transfers
 pub record VolumeAt (w : Up) (v : Found Volume) : Type 0 where
   pub among : Among w.volumes v.item
   pub at : volume_at w v.at ≡ v.item
+
+-- and clients may write it
+pub record WritableAt (w : Up) (v : Found Volume) : Type 0 where
+  pub among : Among w.volumes v.item
+  pub at : volume_at w v.at ≡ v.item
+  pub is_rw : v.item.kind ≡ Rw
 
 pub record RelationAt (w : Up) (r : Found Relationship) : Type 0 where
   pub among : Among w.relations r.item
@@ -52,11 +59,11 @@ pub record Starts (w : Up) (r q : Relationship) : Type 0 where
 -- what the event changes, but for a new snapshot
 pub data IsChange (w : Up) (e : Event) : Up → Type 0 where
   elsewhere : (u : Up) → u.volumes ≡ w.volumes → u.relations ≡ w.relations → u.next_transfer ≡ w.next_transfer → u.next_relation ≡ w.next_relation → IsChange w e u
-  creates : (path : List ℕ) (disk : ℕ) (kind : Kind) (number logical physical : ℕ) → IsChange w e (volumes.with_new_volume w (new_volume path disk kind number logical physical))
-  writes : (v : Found Volume) → VolumeAt w v → (block fill : ℕ) → IsChange w e (with_volume w v.at (volumes.written v.item block fill))
-  drops : (path name : List ℕ) → e ≡ events.Unsnap path name → (v : Found Volume) → volume_named w path ≡ Ok v → VolumeAt w v →
+  creates : (path : List ℕ) (disk : ℕ) (kind : Kind) (logical physical : ℕ) → IsChange w e (volumes.with_new_volume w (new_volume path disk kind (length w.volumes) logical physical))
+  writes : (v : Found Volume) → WritableAt w v → (block fill : ℕ) → IsChange w e (with_volume w v.at (volumes.written v.item block fill))
+  drops : (path name : List ℕ) → e ≡ events.Unsnap path name → (v : Found Volume) → volume_named w path ≡ Ok v → WritableAt w v →
       (s : Snapshot) → volumes.snapshot_named v.item name ≡ Ok s → holder w v.at s.ident ≡ None → IsChange w e (with_volume w v.at (volumes.without_snapshot v.item s.ident))
-  points : (v : Found Volume) → VolumeAt w v → IsChange w e (with_volume w v.at (volumes.at_point v.item))
+  points : (v : Found Volume) → WritableAt w v → IsChange w e (with_volume w v.at (volumes.at_point v.item))
   breaks : (v : Found Volume) → VolumeAt w v → IsChange w e (with_volume w v.at (relations.writable v.item))
   relates : (source destination policy : ℕ) → IsChange w e (relations.with_new_relation w source destination policy)
   changes : (r : Found Relationship) → RelationAt w r → (q : Relationship) → Follows r.item q → IsChange w e (with_relation w r.at q)
@@ -65,7 +72,7 @@ pub data IsChange (w : Up) (e : Event) : Up → Type 0 where
 
 pub data IsAnswer (w : Up) (e : Event) : Told → Up → Type 0 where
   plain : {t : Told} {u : Up} → PlainTold t → IsChange w e u → IsAnswer w e t u
-  snaps : (v : Found Volume) → VolumeAt w v → (p : Volume → Bool) → found p w.volumes ≡ Some v → (path name : List ℕ) (label : Option (List ℕ)) → e ≡ events.Snap path name label →
+  snaps : (v : Found Volume) → WritableAt w v → (p : Volume → Bool) → found p w.volumes ≡ Some v → (path name : List ℕ) (label : Option (List ℕ)) → e ≡ events.Snap path name label →
       IsAnswer w e (told (replies.Snapped (volumes.client_ident v.at v.item))) (with_volume w v.at (volumes.snapped v.at w.clock v.item name label))
 
 abbrev pub Is : Up → Event → Reached → Type 0

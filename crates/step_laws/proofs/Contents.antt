@@ -75,7 +75,7 @@ of_entry start before (runs.restart_after {d = d} a b) r h =
 of_entry start before (runs.restart_failed_up {w = w} disk count a b) r h = no_deed start before (down disk.0 (restart_deed w)) (r, λ s. restart_progress w)
 of_entry start before (runs.restart_failed {d = d} disk count a b) r h = no_deed start before (down disk.0 d) r
 
-each_left : {X : Type 0} (P : X → Type 0) (xs ys : List X) → AllByRecursion P (xs ++ ys) → AllByRecursion P xs × AllByRecursion P ys
+pub each_left : {X : Type 0} (P : X → Type 0) (xs ys : List X) → AllByRecursion P (xs ++ ys) → AllByRecursion P xs × AllByRecursion P ys
 each_left P [] ys h = (tt, h)
 each_left P (x ∷ xs) ys h = let q = each_left P xs ys h.1 in ((h.0, q.0), q.1)
 

@@ -22,7 +22,7 @@ use Rattle.sm_model.specs.LegalRun.{IsDone}
 use Rattle.transfer_laws.proofs.Lists.{same_is, is_same, among_left, among_filter, copy_from_has, has_from_copy}
 use Rattle.step_laws.proofs.Walk.{OfOk, past, with_ok, with_held, now}
 use Rattle.step_laws.proofs.Changes as answers
-use Rattle.step_laws.proofs.Changes.{IsChange, IsAnswer, VolumeAt}
+use Rattle.step_laws.proofs.Changes.{IsChange, IsAnswer}
 use Rattle.step_laws.proofs.OfVolumeEvents.{named_at_place}
 use Rattle.step_laws.proofs.OfAnswer.{OfAnswer}
 use Rattle.step_laws.proofs.Needs.{set_cases, push_within, has_within, without_keeps}
@@ -54,7 +54,7 @@ one_more w k v u s e f = keeps_all_set w k u (λ i h. let (t, m, q) = copy_from_
 
 of_change : (w u : Up) (ev : Event) → ¬ (IsUnsnap ev) → IsChange w ev u → KeepsAll w u
 of_change w u ev n (answers.elsewhere other e f g j) = λ v i h. subst (λ vs. has (slice_index_or vs v no_volume).snapshots i ≡ true) (sym e) h
-of_change w u ev n (answers.creates path disk kind number logical physical) = λ v i h. subst (λ y. has y.snapshots i ≡ true) (sym (push_within w.volumes _ no_volume v (has_within w v i h))) h
+of_change w u ev n (answers.creates path disk kind logical physical) = λ v i h. subst (λ y. has y.snapshots i ≡ true) (sym (push_within w.volumes _ no_volume v (has_within w v i h))) h
 of_change w u ev n (answers.writes v a block fill) = all_stay w v.at v.item _ a.at refl
 of_change w u ev n (answers.drops path name so v is a s named free) = absurd (n (subst IsUnsnap (sym so) (is_unsnap path name)))
 of_change w u ev n (answers.points v a) = all_stay w v.at v.item _ a.at refl
@@ -81,7 +81,7 @@ of_unsnap : (w : Up) (path name : List ℕ) → OfOk (λ d. Unsnapped w path nam
 of_unsnap w path name = with_ok _ _ _ (λ v is. with_ok _ _ _ (λ s named. past _ _ _ _ (λ _. with_held _ _ _ (λ _.
     now _ _ (record { volume = v; snapshot = s; path_is = is; name_is = named; new = refl })))))
 
-done_gives : (P : Up → Type 0) (o : Option Answer) (d : Deed) → OfAnswer (λ r. P r.world) o → IsDone o d → P d.new
+pub done_gives : (P : Up → Type 0) (o : Option Answer) (d : Deed) → OfAnswer (λ r. P r.world) o → IsDone o d → P d.new
 unfolding OfAnswer OfOk
 done_gives P None d h i = absurd i
 done_gives P (Some (Ok x)) d h (t, e) = subst P (sym e) h

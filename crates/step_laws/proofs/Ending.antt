@@ -49,7 +49,7 @@ ends_related w n s d p h r t m e b = go (among_append w.relations (new_relation 
 
 of_change : (w u : Up) (ev : Event) → EndsAtBase w → IsChange w ev u → EndsAtBase u
 of_change w u ev h (answers.elsewhere other e f g j) = λ r t m. h r t (subst (λ rs. Among rs r) f m)
-of_change w u ev h (answers.creates path disk kind number logical physical) = h
+of_change w u ev h (answers.creates path disk kind logical physical) = h
 of_change w u ev h (answers.writes v a block fill) = h
 of_change w u ev h (answers.drops path name so v is a s named free) = h
 of_change w u ev h (answers.points v a) = h

@@ -111,7 +111,7 @@ of_change w u ev (answers.elsewhere other e f g j) = record {
   next_relation = rw j (omega arith);
   transfers = λ r t m i. stays_from w r t (subst (λ rs. Among rs r) f m) i;
 }
-of_change w u ev (answers.creates path disk kind number logical physical) = grown_pushed w _
+of_change w u ev (answers.creates path disk kind logical physical) = grown_pushed w _
 of_change w u ev (answers.writes v a block fill) = grown_volume w v.at _ (rw a.at (omega arith))
 of_change w u ev (answers.drops path name so v is a s named free) = grown_volume w v.at _ (rw a.at (omega arith))
 of_change w u ev (answers.points v a) = grown_volume w v.at _ (rw a.at (omega arith))

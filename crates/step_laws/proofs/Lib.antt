@@ -39,6 +39,17 @@ pub mod Ending
 pub mod Numbered
 pub mod TransferNumbers
 pub mod NumbersStay
+pub mod FamiliesStay
+pub mod DestinationsStay
+pub mod Pigeonhole
+pub mod Room
+pub mod Tests
+pub mod Shapes
+pub mod FormedWorlds
+pub mod FormedParts
+pub mod FormedEvents
+pub mod MadeNames
+pub mod FormedSteps
 pub mod Leaving
 pub mod DropsOfEvents
 pub mod DropsOfSteps

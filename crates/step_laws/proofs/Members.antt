@@ -1,6 +1,6 @@
 -- What stands in a list after it was changed.
 use Rattle.std.proofs.Common.{◌≡◌, ◌⊎◌, ℕ, zero, suc, ◌||◌, Bool, true, false, cond, List, [], ◌∷◌, Option, Some, None, refl, ap, sym, subst, inl, inr, arith}
-use Rattle.std.proofs.lemmas.Option.{same_Some}
+use Rattle.std.proofs.lemmas.Option.{same_Some, slice_get_within, get_or_from_slice_get}
 use Rattle.std.specs.Prelude.{slice_get, slice_set, slice_index_or, length, ◌<◌}
 use Rattle.std.specs.List.{find, list_any}
 use Rattle.sm_defs.specs.Words.{Among, Found, found, next_place}
@@ -16,35 +16,35 @@ among_set (z ∷ xs) (suc i) y x (inr m) = go (among_set xs i y x m)
     go (inl e) = inl e
     go (inr m) = inr (inr m)
 
-found_go : {X : Type 0} (xs : List X) (x : X) (b : Bool) (o : Option (Found X)) (f : Found X) → cond b (Some (record { at = 0; item = x })) (next_place o) ≡ Some f →
-    ((g : Found X) → o ≡ Some g → Among xs g.item) → Among (x ∷ xs) f.item
-found_go xs x true o f e h = inl (ap (λ g. g.item) (sym (same_Some _ f e)))
-found_go xs x false None f e h = absurd (cc)
-found_go xs x false (Some g) f e h = inr (subst (Among xs) (ap (λ g. g.item) (same_Some _ f e)) (h g refl))
-
-pub found_among : {X : Type 0} (p : X → Bool) (xs : List X) (f : Found X) → found p xs ≡ Some f → Among xs f.item
-found_among p [] f e = absurd (cc)
-found_among p (x ∷ xs) f e = found_go xs x (p x) (found p xs) f e (λ g. found_among p xs g)
-
 pub among_get_or : {X : Type 0} (xs : List X) (i : ℕ) (d : X) → i < length xs → Among xs (slice_index_or xs i d)
 among_get_or [] i d h = absurd (omega arith)
 among_get_or (x ∷ xs) zero d h = inl refl
 among_get_or (x ∷ xs) (suc i) d h = inr (among_get_or xs i d (omega arith))
 
-found_at_go : {X : Type 0} (d x : X) (xs : List X) (b : Bool) (o : Option (Found X)) (f : Found X) → cond b (Some (record { at = 0; item = x })) (next_place o) ≡ Some f →
-    ((g : Found X) → o ≡ Some g → slice_index_or xs g.at d ≡ g.item) → slice_index_or (x ∷ xs) f.at d ≡ f.item
-found_at_go d x xs true o f e h = subst (λ f. slice_index_or (x ∷ xs) f.at d ≡ f.item) (same_Some _ f e) refl
-found_at_go d x xs false None f e h = absurd (cc)
-found_at_go d x xs false (Some g) f e h = subst (λ f. slice_index_or (x ∷ xs) f.at d ≡ f.item) (same_Some _ f e) (h g refl)
-
-pub found_at : {X : Type 0} (p : X → Bool) (xs : List X) (f : Found X) (d : X) → found p xs ≡ Some f → slice_index_or xs f.at d ≡ f.item
-found_at p [] f d e = absurd (cc)
-found_at p (x ∷ xs) f d e = found_at_go d x xs (p x) (found p xs) f e (λ g. found_at p xs g d)
-
 pub get_among : {X : Type 0} (xs : List X) (i : ℕ) (x : X) → slice_get xs i ≡ Some x → Among xs x
 get_among [] i x e = absurd (cc)
 get_among (y ∷ ys) zero x e = inl (sym (same_Some y x e))
 get_among (y ∷ ys) (suc i) x e = inr (get_among ys i x e)
+
+get_go : {X : Type 0} (x : X) (xs : List X) (b : Bool) (o : Option (Found X)) (f : Found X) → cond b (Some (record { at = 0; item = x })) (next_place o) ≡ Some f →
+    ((g : Found X) → o ≡ Some g → slice_get xs g.at ≡ Some g.item) → slice_get (x ∷ xs) f.at ≡ Some f.item
+get_go x xs true o f e h = subst (λ f. slice_get (x ∷ xs) f.at ≡ Some f.item) (same_Some _ f e) refl
+get_go x xs false None f e h = absurd (cc)
+get_go x xs false (Some g) f e h = subst (λ f. slice_get (x ∷ xs) f.at ≡ Some f.item) (same_Some _ f e) (h g refl)
+
+-- what was found stands at its place
+pub get_found : {X : Type 0} (p : X → Bool) (xs : List X) (f : Found X) → found p xs ≡ Some f → slice_get xs f.at ≡ Some f.item
+get_found p [] f e = absurd (cc)
+get_found p (x ∷ xs) f e = get_go x xs (p x) (found p xs) f e (λ g. get_found p xs g)
+
+pub found_among : {X : Type 0} (p : X → Bool) (xs : List X) (f : Found X) → found p xs ≡ Some f → Among xs f.item
+found_among p xs f e = get_among xs f.at f.item (get_found p xs f e)
+
+pub found_at : {X : Type 0} (p : X → Bool) (xs : List X) (f : Found X) (d : X) → found p xs ≡ Some f → slice_index_or xs f.at d ≡ f.item
+found_at p xs f d e = get_or_from_slice_get xs f.at f.item d (get_found p xs f e)
+
+pub found_within : {X : Type 0} (p : X → Bool) (xs : List X) (f : Found X) → found p xs ≡ Some f → f.at < length xs
+found_within p xs f e = slice_get_within xs f.at f.item (get_found p xs f e)
 
 find_go : {X : Type 0} (p : X → Bool) (z : X) (xs : List X) (x : X) (b : Bool) → p z ≡ b → cond b (Some z) (find p xs) ≡ Some x → (find p xs ≡ Some x → Among xs x × (p x ≡ true)) → Among (z ∷ xs) x × (p x ≡ true)
 find_go p z xs x true e f h = (inl (sym (same_Some z x f)), subst (λ y. p y ≡ true) (same_Some z x f) e)
@@ -71,13 +71,3 @@ pub set_at : {X : Type 0} (xs : List X) (k : ℕ) (y d : X) → k < length xs �
 set_at [] k y d h = absurd (omega arith)
 set_at (x ∷ xs) zero y d h = refl
 set_at (x ∷ xs) (suc k) y d h = set_at xs k y d (omega arith)
-
-within_go : {X : Type 0} (x : X) (xs : List X) (b : Bool) (o : Option (Found X)) (f : Found X) → cond b (Some (record { at = 0; item = x })) (next_place o) ≡ Some f →
-    ((g : Found X) → o ≡ Some g → g.at < length xs) → f.at < length (x ∷ xs)
-within_go x xs true o f e h = subst (λ g. g.at < length (x ∷ xs)) (same_Some _ f e) (omega arith)
-within_go x xs false None f e h = absurd (cc)
-within_go x xs false (Some g) f e h = subst (λ g. g.at < length (x ∷ xs)) (same_Some _ f e) (let l = h g refl in omega arith)
-
-pub found_within : {X : Type 0} (p : X → Bool) (xs : List X) (f : Found X) → found p xs ≡ Some f → f.at < length xs
-found_within p [] f e = absurd (cc)
-found_within p (x ∷ xs) f e = within_go x xs (p x) (found p xs) f e (λ g. found_within p xs g)

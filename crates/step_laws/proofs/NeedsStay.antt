@@ -23,7 +23,7 @@ use Rattle.transfer_laws.proofs.Kept.{keeps_needed}
 use Rattle.step_laws.specs.Needs.{KeepsNeeded}
 use Rattle.step_laws.proofs.Walk.{going}
 use Rattle.step_laws.proofs.Changes as answers
-use Rattle.step_laws.proofs.Changes.{IsChange, IsAnswer, VolumeAt, Is}
+use Rattle.step_laws.proofs.Changes.{IsChange, IsAnswer, Is}
 use Rattle.step_laws.proofs.OfAnswer.{of_answer}
 use Rattle.step_laws.proofs.Deeds.{IsAnswered, from_answer, deed_cases}
 use Rattle.step_laws.proofs.Needs.{keeps_set, push_within, has_within, mapped_at, without_keeps, split_at, no_holder, none_held}
@@ -42,7 +42,7 @@ one_more w k v u s e f = keeps_set w k u (λ i h n. let (t, m, q) = copy_from_ha
 
 of_change : (w u : Up) (ev : Event) → IsChange w ev u → KeepsNeeded w u
 of_change w u ev (answers.elsewhere other e f g j) = same_volumes w other e
-of_change w u ev (answers.creates path disk kind number logical physical) = λ v i h n.
+of_change w u ev (answers.creates path disk kind logical physical) = λ v i h n.
     subst (λ y. has y.snapshots i ≡ true) (sym (push_within w.volumes _ no_volume v (has_within w v i h))) h
 of_change w u ev (answers.writes v a block fill) = all_stay w v.at v.item _ a.at refl
 of_change w u ev (answers.drops path name so v is a s named free) = keeps_set w v.at _ (λ j h n. without_keeps (λ t. same_ident t.ident s.ident) v.item j (subst (λ y. has y.snapshots j ≡ true) a.at h)

@@ -19,20 +19,20 @@ use Rattle.sm_model.specs.OfVolumes as volumes
 use Rattle.sm_model.specs.OfPolicies as policies
 use Rattle.step_laws.proofs.Walk.{OfOk, past, with_found, with_ok, with_held, now}
 use Rattle.step_laws.proofs.Changes.{VolumeAt, Is, elsewhere, creates, writes, drops, points, plain, snaps}
-use Rattle.step_laws.proofs.Plainly.{volume_at_place, bytes_told, by_told, by_done, same}
+use Rattle.step_laws.proofs.Plainly.{volume_at_place, writable_if, writable_at_place, bytes_told, by_told, by_done, same}
 
 -- ---- volumes
 
 pub create_volume : (w : Up) (ev : Event) (path : List ℕ) (disk : DiskNo) (kind : Kind) (l p : ℕ) → OfOk (Is w ev) (volumes.create_volume w path disk kind l p)
 unfolding made_by
 create_volume w ev path disk kind l p = past _ _ _ _ (λ _. past _ _ _ _ (λ _. with_found _ _ _ _ (λ len _. past _ _ _ _ (λ _. past _ _ _ _ (λ _. past _ _ _ _ (λ _.
-    by_told w _ ev _ (record { makes_none = refl; accepted = λ r e. cc }) (creates path disk.0 kind _ l p)))))))
+    by_told w _ ev _ (record { makes_none = refl; accepted = λ r e. cc }) (creates path disk.0 kind l p)))))))
 
 pub write : (w : Up) (ev : Event) (path : List ℕ) (block fill : ℕ) → OfOk (Is w ev) (volumes.write w path block fill)
-write w ev path block fill = with_found _ _ _ _ (λ v is. past _ _ _ _ (λ _. past _ _ _ _ (λ _. past _ _ _ _ (λ _. by_done w _ ev (writes v (volume_at_place w _ v is) block fill)))))
+write w ev path block fill = with_found _ _ _ _ (λ v is. past _ _ _ _ (λ rw_is. past _ _ _ _ (λ _. past _ _ _ _ (λ _. by_done w _ ev (writes v (writable_at_place w _ v is rw_is) block fill)))))
 
 pub snap : (w : Up) (ev : Event) (path name : List ℕ) (label : Option (List ℕ)) → ev ≡ events.Snap path name label → OfOk (Is w ev) (volumes.snap w path name label)
-snap w ev path name label so = with_found _ _ _ _ (λ v is. past _ _ _ _ (λ _. past _ _ _ _ (λ _. past _ _ _ _ (λ _. now (Is w ev) _ (snaps v (volume_at_place w _ v is) _ is path name label so)))))
+snap w ev path name label so = with_found _ _ _ _ (λ v is. past _ _ _ _ (λ rw_is. past _ _ _ _ (λ _. past _ _ _ _ (λ _. now (Is w ev) _ (snaps v (writable_at_place w _ v is rw_is) _ is path name label so)))))
 
 pub held_none : (o : Option Relationship) → volumes.held o ≡ Ok tt → o ≡ None
 unfolding volumes.held
@@ -51,11 +51,11 @@ pub named_at_place : (w : Up) (path : List ℕ) (v : Found Volume) → volume_na
 named_at_place w path v e = named_go w path v _ refl e
 
 pub unsnap : (w : Up) (ev : Event) (path name : List ℕ) → ev ≡ events.Unsnap path name → OfOk (Is w ev) (volumes.unsnap w path name)
-unsnap w ev path name so = with_ok _ _ _ (λ v is. with_ok _ _ _ (λ s named. past _ _ _ _ (λ _. with_held _ _ _ (λ free.
-    by_done w _ ev (drops path name so v is (named_at_place w path v is) s named (held_none _ free))))))
+unsnap w ev path name so = with_ok _ _ _ (λ v is. with_ok _ _ _ (λ s named. past _ _ _ _ (λ rw_is. with_held _ _ _ (λ free.
+    by_done w _ ev (drops path name so v is (writable_if w v (named_at_place w path v is) rw_is) s named (held_none _ free))))))
 
 pub cp : (w : Up) (ev : Event) (path : List ℕ) → OfOk (Is w ev) (volumes.cp w path)
-cp w ev path = with_found _ _ _ _ (λ v is. past _ _ _ _ (λ _. by_done w _ ev (points v (volume_at_place w _ v is))))
+cp w ev path = with_found _ _ _ _ (λ v is. past _ _ _ _ (λ rw_is. by_done w _ ev (points v (writable_at_place w _ v is rw_is))))
 
 pub read : (w : Up) (ev : Event) (path : List ℕ) (name : Option (List ℕ)) (block : ℕ) → OfOk (Is w ev) (volumes.read w path name block)
 read w ev path name block = with_found _ _ _ _ (λ v _. with_ok _ _ _ (λ i _. past _ _ _ _ (λ _. now (Is w ev) _ (plain (bytes_told _) (same w ev)))))

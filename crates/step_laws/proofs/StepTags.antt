@@ -1,5 +1,5 @@
 -- Tags fit what a step makes of a destination.
-use Rattle.std.proofs.Common.{◌≡◌, ◌≢◌, ◌⊎◌, ◌==◌, ◌&&◌, ℕ, Bool, true, false, cond, not, List, [], ◌∷◌, ◌++◌, Option, Some, None, refl, sym, ap, subst, ◌∙◌, inl, inr, true≢false}
+use Rattle.std.proofs.Common.{◌≡◌, ◌≢◌, ◌⊎◌, ◌==◌, ◌&&◌, ℕ, Bool, true, false, cond, not, List, [], ◌∷◌, ◌++◌, Option, Some, None, refl, sym, ap, subst, ◌∙◌, inl, inr, true≢false, map}
 use Rattle.std.proofs.lemmas.Bool.{eqb-false, and_from}
 use Rattle.std.specs.Prelude.{slice_get}
 use Rattle.sm_base.specs.declared.numbers.Kind.{Kind}
@@ -32,8 +32,8 @@ use Rattle.step_laws.proofs.VaultTags.{vault_fits}
 
 -- ---- Revert
 
-pub reverted_fits : (x : Running) (base : Snapshot) → Among x.destination.snapshots base → TagsFitIn x.destination → TagsFitIn (reverted x base)
-reverted_fits x base m f = fits_fewer x.destination (reverted x base) go refl (thinned_differ ident_of (reverted_thins x.policy base.ident x.destination.snapshots) f.idents_differ) f
+pub reverted_from : (x : Running) (base : Snapshot) → Among x.destination.snapshots base → ImagesFrom x.destination (reverted x base)
+reverted_from x base m = go
   where
     at : Among (images_of x.destination) base.image
     at = inr (inr (among_map image_of x.destination.snapshots base m))
@@ -43,26 +43,43 @@ reverted_fits x base m f = fits_fewer x.destination (reverted x base) go refl (t
     go image (inr (inl e)) = subst (Among (images_of x.destination)) (sym e) at
     go image (inr (inr k)) = inr (inr (thinned_among (thinned_map image_of (reverted_thins x.policy base.ident x.destination.snapshots)) image k))
 
+pub reverted_fits : (x : Running) (base : Snapshot) → Among x.destination.snapshots base → TagsFitIn x.destination → TagsFitIn (reverted x base)
+reverted_fits x base m f = fits_fewer x.destination (reverted x base) (reverted_from x base m) refl (thinned_differ ident_of (reverted_thins x.policy base.ident x.destination.snapshots) f.idents_differ) f
+
+-- ---- Publish
+
+-- each snapshot is one that stood, or the leg
+pub published_among : (w : Up) (x : Running) (leg t : Snapshot) → Among (list_published w x (arrived x leg)) t → Among x.destination.snapshots t ⊎ (t ≡ arrived x leg)
+published_among w x leg t m = go (among_append x.destination.snapshots (arrived x leg ∷ []) t (thinned_among (published_thins w x (arrived x leg)) t m))
+  where
+    go : Among x.destination.snapshots t ⊎ Among (arrived x leg ∷ []) t → Among x.destination.snapshots t ⊎ (t ≡ arrived x leg)
+    go (inl n) = inl n
+    go (inr (inl e)) = inr e
+    go (inr (inr n)) = absurd n
+
+-- each image is one that stood, or what landed
+pub published_from : (w : Up) (x : Running) (leg : Snapshot) (image : Image) → Among (images_of (published w x leg)) image → (image ≡ landing x leg) ⊎ Among (images_of x.destination) image
+published_from w x leg image (inl e) = inl e
+published_from w x leg image (inr (inl e)) = inl e
+published_from w x leg image (inr (inr m)) = let (t, n, i) = from_map image_of (list_published w x (arrived x leg)) image m in go t i (published_among w x leg t n)
+  where
+    go : (t : Snapshot) → image ≡ t.image → Among x.destination.snapshots t ⊎ (t ≡ arrived x leg) → (image ≡ landing x leg) ⊎ Among (images_of x.destination) image
+    go t i (inl n) = inr (inr (inr (subst (Among (map image_of x.destination.snapshots)) (sym i) (among_map image_of x.destination.snapshots t n))))
+    go t i (inr e) = inl (i ∙ ap image_of e)
+
+pub published_stored : (w : Up) (x : Running) (leg : Snapshot) → StoredIn x.destination (published w x leg) (landing x leg)
+published_stored w x leg p b (image, m, e) = go (published_from w x leg image m)
+  where
+    go : (image ≡ landing x leg) ⊎ Among (images_of x.destination) image → (slice_get (landing x leg) p ≡ Some b) ⊎ Stored x.destination p b
+    go (inl i) = inl (subst (λ y. slice_get y p ≡ Some b) i e)
+    go (inr n) = inr (image, n, e)
+
 pub published_fits : (w : Up) (x : Running) (leg : Snapshot) → Ahead x leg → FitsTo x.destination (landing x leg) → TagsFitIn x.destination → TagsFitIn (published w x leg)
-published_fits w x leg a k f = fits_merged x.destination (published w x leg) (landing x leg) go k refl
-    (thinned_differ ident_of thins (differ_push ident_of x.destination.snapshots (arrived x leg) f.idents_differ (λ t m e. lacked x.destination.snapshots a.i t a.lacks m (e ∙ same)))) f
+published_fits w x leg a k f = fits_merged x.destination (published w x leg) (landing x leg) (published_stored w x leg) k refl
+    (thinned_differ ident_of (published_thins w x (arrived x leg)) (differ_push ident_of x.destination.snapshots (arrived x leg) f.idents_differ (λ t m e. lacked x.destination.snapshots a.i t a.lacks m (e ∙ same)))) f
   where
     same : leg.ident ≡ a.i
     same = (snapshot_is x.source.snapshots a.i leg a.source).1
-
-    thins : Thinned (list_published w x (arrived x leg)) (x.destination.snapshots ++ arrived x leg ∷ [])
-    thins = published_thins w x (arrived x leg)
-
-    from : (p : ℕ) (b : Block) (image : Image) (t : Snapshot) → image ≡ t.image → slice_get image p ≡ Some b → Among x.destination.snapshots t ⊎ Among (arrived x leg ∷ []) t → (slice_get (landing x leg) p ≡ Some b) ⊎ Stored x.destination p b
-    from p b image t i e (inl m) = inr (in_snapshot x.destination t p b m (subst (λ y. slice_get y p ≡ Some b) i e))
-    from p b image t i e (inr (inl j)) = inl (subst (λ y. slice_get y p ≡ Some b) (i ∙ ap image_of j) e)
-    from p b image t i e (inr (inr m)) = elim m [ ]
-
-    go : StoredIn x.destination (published w x leg) (landing x leg)
-    go p b (image, inl i, e) = inl (subst (λ y. slice_get y p ≡ Some b) i e)
-    go p b (image, inr (inl i), e) = inl (subst (λ y. slice_get y p ≡ Some b) i e)
-    go p b (image, inr (inr m), e) = let (t, n, i) = from_map image_of (list_published w x (arrived x leg)) image m in
-        from p b image t i e (among_append x.destination.snapshots (arrived x leg ∷ []) t (thinned_among thins t n))
 
 -- ---- a mirror's leg fits its destination
 

@@ -30,39 +30,39 @@ fits_fewer v u h e d f = record {
   idents_differ = d;
 }
 
+pub pointed_from : (v : Volume) → ImagesFrom v (at_point v)
+pointed_from v image (inl e) = inl e
+pointed_from v image (inr (inl e)) = inl e
+pointed_from v image (inr (inr m)) = inr (inr m)
+
 pub pointed_fits : (v : Volume) → TagsFitIn v → TagsFitIn (at_point v)
-pointed_fits v f = fits_fewer v (at_point v) go refl f.idents_differ f
-  where
-    go : ImagesFrom v (at_point v)
-    go image (inl e) = inl e
-    go image (inr (inl e)) = inl e
-    go image (inr (inr m)) = inr (inr m)
+pointed_fits v f = fits_fewer v (at_point v) (pointed_from v) refl f.idents_differ f
+
+pub reopened_from : (v : Volume) → ImagesFrom v (reopened v)
+reopened_from v image (inl e) = inr (inl e)
+reopened_from v image (inr m) = inr m
 
 pub reopened_fits : (v : Volume) → TagsFitIn v → TagsFitIn (reopened v)
-reopened_fits v f = fits_fewer v (reopened v) go refl f.idents_differ f
-  where
-    go : ImagesFrom v (reopened v)
-    go image (inl e) = inr (inl e)
-    go image (inr m) = inr m
+reopened_fits v f = fits_fewer v (reopened v) (reopened_from v) refl f.idents_differ f
+
+pub thinned_from : (v : Volume) (ss : List Snapshot) → Thinned ss v.snapshots → ImagesFrom v (record v { snapshots = ss })
+thinned_from v ss t image (inl e) = inl e
+thinned_from v ss t image (inr (inl e)) = inr (inl e)
+thinned_from v ss t image (inr (inr m)) = inr (inr (thinned_among (thinned_map image_of t) image m))
 
 pub thinned_fits : (v : Volume) (ss : List Snapshot) → Thinned ss v.snapshots → TagsFitIn v → TagsFitIn (record v { snapshots = ss })
-thinned_fits v ss t f = fits_fewer v (record v { snapshots = ss }) go refl (thinned_differ ident_of t f.idents_differ) f
-  where
-    go : ImagesFrom v (record v { snapshots = ss })
-    go image (inl e) = inl e
-    go image (inr (inl e)) = inr (inl e)
-    go image (inr (inr m)) = inr (inr (thinned_among (thinned_map image_of t) image m))
+thinned_fits v ss t f = fits_fewer v (record v { snapshots = ss }) (thinned_from v ss t) refl (thinned_differ ident_of t f.idents_differ) f
 
 -- active and stable become an image of the volume
-pub set_back_fits : (v : Volume) (image : Image) → Among (images_of v) image → TagsFitIn v → TagsFitIn (record v { active = image; stable = image })
-set_back_fits v image m f = fits_fewer v (record v { active = image; stable = image }) go refl f.idents_differ f
-  where
-    go : ImagesFrom v (record v { active = image; stable = image })
-    go other (inl e) = subst (Among (images_of v)) (sym e) m
-    go other (inr (inl e)) = subst (Among (images_of v)) (sym e) m
-    go other (inr (inr k)) = inr (inr k)
+pub set_back_from : (v : Volume) (image : Image) → Among (images_of v) image → ImagesFrom v (record v { active = image; stable = image })
+set_back_from v image m other (inl e) = subst (Among (images_of v)) (sym e) m
+set_back_from v image m other (inr (inl e)) = subst (Among (images_of v)) (sym e) m
+set_back_from v image m other (inr (inr k)) = inr (inr k)
 
-each_pushed : {X : Type 0} (P : X → Type 0) (xs : List X) (x : X) → AllByRecursion P xs → P x → AllByRecursion P (xs ++ x ∷ [])
+pub set_back_fits : (v : Volume) (image : Image) → Among (images_of v) image → TagsFitIn v → TagsFitIn (record v { active = image; stable = image })
+set_back_fits v image m f = fits_fewer v (record v { active = image; stable = image }) (set_back_from v image m) refl f.idents_differ f
+
+pub each_pushed : {X : Type 0} (P : X → Type 0) (xs : List X) (x : X) → AllByRecursion P xs → P x → AllByRecursion P (xs ++ x ∷ [])
 each_pushed P [] x h k = (k, tt)
 each_pushed P (y ∷ ys) x h k = (h.0, each_pushed P ys x h.1 k)
 
@@ -70,8 +70,9 @@ pub differ_push : {X K : Type 0} (key : X → K) (xs : List X) (x : X) → KeysD
 differ_push key [] x h k = (tt, tt)
 differ_push key (y ∷ ys) x h k = (each_pushed (λ z. ¬ (key z ≡ key y)) ys x h.0 (λ e. k y (inl refl) (sym e)), differ_push key ys x h.1 (λ z m. k z (inr m)))
 
-pub snapped_fits : (v : Volume) (s : Snapshot) → s.image ≡ v.active → ((t : Snapshot) → Among v.snapshots t → ¬ (t.ident ≡ s.ident)) → TagsFitIn v → TagsFitIn (with_snapshot v s)
-snapped_fits v s e d f = fits_fewer v (with_snapshot v s) go refl (differ_push ident_of v.snapshots s f.idents_differ d) f
+-- a snapshot of the active image brings no other image
+pub snapped_from : (v : Volume) (s : Snapshot) → s.image ≡ v.active → ImagesFrom v (with_snapshot v s)
+snapped_from v s e = go
   where
     one : (image : Image) (t : Snapshot) → image ≡ t.image → Among v.snapshots t ⊎ Among (s ∷ []) t → Among (images_of v) image
     one image t i (inl m) = inr (inr (subst (Among (map image_of v.snapshots)) (sym i) (among_map image_of v.snapshots t m)))
@@ -83,6 +84,9 @@ snapped_fits v s e d f = fits_fewer v (with_snapshot v s) go refl (differ_push i
     go image (inr (inl e)) = inl e
     go image (inr (inr m)) = let (t, n, i) = from_map image_of (v.snapshots ++ s ∷ []) image m in one image t i (among_append v.snapshots (s ∷ []) t n)
 
+pub snapped_fits : (v : Volume) (s : Snapshot) → s.image ≡ v.active → ((t : Snapshot) → Among v.snapshots t → ¬ (t.ident ≡ s.ident)) → TagsFitIn v → TagsFitIn (with_snapshot v s)
+snapped_fits v s e d f = fits_fewer v (with_snapshot v s) (snapped_from v s e) refl (differ_push ident_of v.snapshots s f.idents_differ d) f
+
 -- ---- a block at a fresh number
 
 pub stands_tag : (image : Image) (p : ℕ) (b : Block) → slice_get image p ≡ Some b → stands b.tag (tags image) ≡ true
@@ -90,7 +94,7 @@ stands_tag [] p b e = absurd (cc)
 stands_tag (c ∷ cs) zero b e = or_left _ _ (eq-eqb c.tag b.tag (ap tag_of (same_Some c b e)))
 stands_tag (c ∷ cs) (suc p) b e = or_right _ _ (stands_tag cs p b e)
 
-any_left : {X : Type 0} (p : X → Bool) (xs ys : List X) → list_any p xs ≡ true → list_any p (xs ++ ys) ≡ true
+pub any_left : {X : Type 0} (p : X → Bool) (xs ys : List X) → list_any p xs ≡ true → list_any p (xs ++ ys) ≡ true
 any_left p [] ys e = absurd (cc)
 any_left p (x ∷ xs) ys e = go (or_cases (p x) (list_any p xs) e) (any_left p xs ys)
   where
@@ -98,7 +102,7 @@ any_left p (x ∷ xs) ys e = go (or_cases (p x) (list_any p xs) e) (any_left p x
     go (inl k) ih = or_left _ _ k
     go (inr k) ih = or_right _ _ (ih k)
 
-any_right : {X : Type 0} (p : X → Bool) (xs ys : List X) → list_any p ys ≡ true → list_any p (xs ++ ys) ≡ true
+pub any_right : {X : Type 0} (p : X → Bool) (xs ys : List X) → list_any p ys ≡ true → list_any p (xs ++ ys) ≡ true
 any_right p [] ys e = e
 any_right p (x ∷ xs) ys e = or_right _ _ (any_right p xs ys e)
 
@@ -163,14 +167,13 @@ fits_fresh v u k y h new small e d f = record {
     low p b (inl (i, j)) = rw (ap tag_of j) small
     low p b (inr s) = rw e (f.in_range p b s)
 
-tag_of_full : (t fill : ℕ) → (full_block t fill).tag ≡ t
+pub tag_of_full : (t fill : ℕ) → (full_block t fill).tag ≡ t
 unfolding full_block
 tag_of_full t fill = refl
 
-pub written_fits : (v : Volume) (block fill : ℕ) → TagsFitIn v → TagsFitIn (written v block fill)
-written_fits v block fill f =
-    let t = first_of (free_tags v) in let e : (full_block t fill).tag ≡ t = tag_of_full t fill in
-    fits_fresh v (written v block fill) block (full_block t fill) go (λ n p b s. rw e (fresh_tag v p b (subst (λ x. x ≢ 0) e n) s)) (rw e (free_in_range v)) refl f.idents_differ f
+-- the new block, or one that was there
+pub written_stored : (v : Volume) (block fill : ℕ) → StoredOr v (written v block fill) block (full_block (first_of (free_tags v)) fill)
+written_stored v block fill = go
   where
     at : (image : Image) (p : ℕ) (b : Block) → ((p ≡ block) × (b ≡ full_block (first_of (free_tags v)) fill)) ⊎ (slice_get v.active p ≡ Some b) →
         ((p ≡ block) × (b ≡ full_block (first_of (free_tags v)) fill)) ⊎ Stored v p b
@@ -180,3 +183,8 @@ written_fits v block fill f =
     go : StoredOr v (written v block fill) block (full_block (first_of (free_tags v)) fill)
     go p b (image, inl m, e) = at image p b (get_set v.active block _ p b (subst (λ x. slice_get x p ≡ Some b) m e))
     go p b (image, inr m, e) = inr (image, inr m, e)
+
+pub written_fits : (v : Volume) (block fill : ℕ) → TagsFitIn v → TagsFitIn (written v block fill)
+written_fits v block fill f =
+    let t = first_of (free_tags v) in let e : (full_block t fill).tag ≡ t = tag_of_full t fill in
+    fits_fresh v (written v block fill) block (full_block t fill) (written_stored v block fill) (λ n p b s. rw e (fresh_tag v p b (subst (λ x. x ≢ 0) e n) s)) (rw e (free_in_range v)) refl f.idents_differ f

@@ -33,7 +33,7 @@ use Rattle.step_laws.proofs.Brings.{reserved_fresh, tidy_within}
 use Rattle.step_laws.proofs.Merged.{hole_tag}
 use Rattle.step_laws.proofs.StepTags.{reverted_fits, published_fits, landing_fits}
 use Rattle.step_laws.proofs.Changes as answers
-use Rattle.step_laws.proofs.Changes.{IsChange, IsAnswer, VolumeAt}
+use Rattle.step_laws.proofs.Changes.{IsChange, IsAnswer, WritableAt}
 use Rattle.step_laws.proofs.Deeds.{IsAnswered, deed_cases}
 
 -- ---- a new volume
@@ -43,7 +43,7 @@ get_replicate zero x p b e = absurd (cc)
 get_replicate (suc n) x zero b e = sym (same_Some x b e)
 get_replicate (suc n) x (suc p) b e = get_replicate n x p b e
 
-new_stored : (path : List ℕ) (disk : ℕ) (kind : Kind) (number logical physical p : ℕ) (b : Block) → Stored (new_volume path disk kind number logical physical) p b → b ≡ hole
+pub new_stored : (path : List ℕ) (disk : ℕ) (kind : Kind) (number logical physical p : ℕ) (b : Block) → Stored (new_volume path disk kind number logical physical) p b → b ≡ hole
 new_stored path disk kind number logical physical p b (image, inl m, e) = get_replicate logical hole p b (subst (λ x. slice_get x p ≡ Some b) m e)
 new_stored path disk kind number logical physical p b (image, inr (inl m), e) = get_replicate logical hole p b (subst (λ x. slice_get x p ≡ Some b) m e)
 new_stored path disk kind number logical physical p b (image, inr (inr m), e) = absurd m
@@ -65,7 +65,7 @@ writable_fits v f = record { one_place = f.one_place; in_range = f.in_range; ide
 
 of_change : (w u : Up) (ev : Event) → TagsFit w → IsChange w ev u → TagsFit u
 of_change w u ev h (answers.elsewhere other e f g j) = λ v m. h v (subst (λ vs. Among vs v) e m)
-of_change w u ev h (answers.creates path disk kind number logical physical) = each_push TagsFitIn w.volumes _ h (new_fits path disk kind number logical physical)
+of_change w u ev h (answers.creates path disk kind logical physical) = each_push TagsFitIn w.volumes _ h (new_fits path disk kind _ logical physical)
 of_change w u ev h (answers.writes v a block fill) = each_set TagsFitIn w v.at _ h (written_fits v.item block fill (h v.item a.among))
 of_change w u ev h (answers.drops path name so v is a s named free) = each_set TagsFitIn w v.at _ h (thinned_fits v.item _ (filter_thins _ v.item.snapshots) (h v.item a.among))
 of_change w u ev h (answers.points v a) = each_set TagsFitIn w v.at _ h (pointed_fits v.item (h v.item a.among))
@@ -75,7 +75,7 @@ of_change w u ev h (answers.changes r a q f) = h
 of_change w u ev h (answers.halves r a q f) = h
 of_change w u ev h (answers.starts r a q f) = h
 
-of_snap : (w : Up) (v : Found Volume) (p : Volume → Bool) (name : List ℕ) (label : Option (List ℕ)) → SoundUp w → VolumeAt w v → found p w.volumes ≡ Some v → TagsFit (with_volume w v.at (snapped v.at w.clock v.item name label))
+of_snap : (w : Up) (v : Found Volume) (p : Volume → Bool) (name : List ℕ) (label : Option (List ℕ)) → SoundUp w → WritableAt w v → found p w.volumes ≡ Some v → TagsFit (with_volume w v.at (snapped v.at w.clock v.item name label))
 of_snap w v p name label s a is = each_set TagsFitIn w v.at _ s.tags_fit (counted_fits (with_snapshot v.item (client_snapshot v.at w.clock v.item name label)) _
     (snapped_fits v.item (client_snapshot v.at w.clock v.item name label) refl (λ t m. client_fresh w p v s.numbers_stand is v.item t (a.among, m)) (s.tags_fit v.item a.among)))
 

@@ -1,5 +1,5 @@
 -- A list with some members left out.
-use Rattle.std.proofs.Common.{◌≡◌, Bool, true, false, cond, List, [], ◌∷◌, map, inl, inr}
+use Rattle.std.proofs.Common.{◌≡◌, Bool, true, false, cond, List, [], ◌∷◌, map, inl, inr, length, ◌≤◌, arith}
 use Rattle.std.specs.List.{filter, AllByRecursion}
 use Rattle.sm_defs.specs.Words.{Among, KeysDiffer, up_to}
 use Rattle.sm_defs.specs.Thinned.{Thinned, end, kept, left_out}
@@ -33,6 +33,11 @@ thinned_among end x m = m
 thinned_among (kept t) x (inl e) = inl e
 thinned_among (kept t) x (inr m) = inr (thinned_among t x m)
 thinned_among (left_out t) x m = inr (thinned_among t x m)
+
+pub thinned_shorter : {X : Type 0} {xs ys : List X} → Thinned xs ys → length xs ≤ length ys
+thinned_shorter end = omega arith
+thinned_shorter (kept t) = let h = thinned_shorter t in omega arith
+thinned_shorter (left_out t) = let h = thinned_shorter t in omega arith
 
 pub thinned_each : {X : Type 0} (P : X → Type 0) {xs ys : List X} → Thinned xs ys → AllByRecursion P ys → AllByRecursion P xs
 thinned_each P end h = h

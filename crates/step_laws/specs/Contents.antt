@@ -60,3 +60,7 @@ ContentsAreTheOrigins = (start : Up) (entries : List Entry) (sides : List Side) 
 abbrev pub IdentitiesAreMadeOnce : Type 0
 IdentitiesAreMadeOnce = (start : Up) (entries : List Entry) (sides : List Side) (earlier : List Deed) (d : Deed) (later : List Deed) (last : World) (i : Ident) →
     SoundUp start → Run (up start) entries sides (earlier ++ d ∷ later) last → BeginSound (earlier ++ d ∷ later) → makes i d ≡ true → origin start earlier i ≡ None
+
+-- later deeds leave an origin that is known
+abbrev pub OriginsStay : Type 0
+OriginsStay = (start : Up) (deeds later : List Deed) (i : Ident) (image : Image) → origin start deeds i ≡ Some image → origin start (deeds ++ later) i ≡ Some image

@@ -4,5 +4,7 @@ pub mod Copies
 pub mod Contents
 pub mod Idling
 pub mod Numbers
+pub mod Forming
+pub mod Families
 pub mod Dropping
 pub mod Runs

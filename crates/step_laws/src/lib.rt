@@ -7,10 +7,12 @@
 ghost use Rattle.step_laws.specs.Answering.{OpeningAgainChangesNothing, ShowingLeavesTheWorld, OkIsNoRefusal, StepsAreNoRefusals, DeedsAreNoRefusals, RefusalsLeaveTheWorld, ChosenIsDue};
 ghost use Rattle.step_laws.specs.Needs.{AnswersKeepTheNeeded, StepsKeepTheNeeded, DeedsKeepTheNeeded, RestartsKeepSnapshots};
 ghost use Rattle.step_laws.specs.Copies.{AnswersKeepTags, StepsKeepTags, DeedsKeepTags, RestartsKeepTags, AnswersKeepCopies, StepsKeepCopies, DeedsKeepCopies, RestartsKeepCopies};
-ghost use Rattle.step_laws.specs.Contents.{DeedsAreTraced, ContentsAreTheOrigins, IdentitiesAreMadeOnce};
+ghost use Rattle.step_laws.specs.Contents.{DeedsAreTraced, ContentsAreTheOrigins, IdentitiesAreMadeOnce, OriginsStay};
 ghost use Rattle.step_laws.specs.Idling.{DeedsKeepEnds, RestartsKeepEnds, RunningTransfersHaveSteps, IdleIsExact};
 ghost use Rattle.step_laws.specs.Numbers.{DeedsKeepNumbers, RestartsKeepNumbers};
-ghost use Rattle.step_laws.specs.Dropping.{DropsAreNamed};
+ghost use Rattle.step_laws.specs.Forming.{AnswersKeepForm, DeedsKeepForm, RestartsKeepForm};
+ghost use Rattle.step_laws.specs.Families.{AnswersKeepFamilies, RestartsKeepFamilies, DeedsKeepFamilyNumbers, RestartsKeepFamilyNumbers};
+ghost use Rattle.step_laws.specs.Dropping.{DropsAreNamed, AnswersDropWhatIsNamed};
 ghost use Rattle.step_laws.specs.Runs.{RunsDoDeeds, RunsKeepTheNeeded, RunsDropWhatIsNamed};
 
 /// Opening a world that was just opened changes nothing.
@@ -123,6 +125,11 @@ pub fn identities_are_made_once()
     ensures { IdentitiesAreMadeOnce }
 {}
 
+/// Later deeds leave an origin that is known.
+pub fn origins_stay()
+    ensures { OriginsStay }
+{}
+
 /// Where each transfer has a base or a leg, so it is after each deed.
 pub fn deeds_keep_ends()
     ensures { DeedsKeepEnds }
@@ -153,9 +160,49 @@ pub fn restarts_keep_numbers()
     ensures { RestartsKeepNumbers }
 {}
 
+/// Each answer of a sound world to an event that can be asked for leaves a world that is formed.
+pub fn answers_keep_form()
+    ensures { AnswersKeepForm }
+{}
+
+/// So does each deed.
+pub fn deeds_keep_form()
+    ensures { DeedsKeepForm }
+{}
+
+/// A world that is formed is so after a restart.
+pub fn restarts_keep_form()
+    ensures { RestartsKeepForm }
+{}
+
+/// Copies of one identity in one family have the same numbers of blocks after each answer of a sound world.
+pub fn answers_keep_families()
+    ensures { AnswersKeepFamilies }
+{}
+
+/// So they have after a restart if they had before.
+pub fn restarts_keep_families()
+    ensures { RestartsKeepFamilies }
+{}
+
+/// After each deed that begins in a sound world each family is of a number that was given.
+pub fn deeds_keep_family_numbers()
+    ensures { DeedsKeepFamilyNumbers }
+{}
+
+/// So it is after a restart.
+pub fn restarts_keep_family_numbers()
+    ensures { RestartsKeepFamilyNumbers }
+{}
+
 /// A deed that begins in a sound world drops exactly the snapshots that the rules name for it.
 pub fn drops_are_named()
     ensures { DropsAreNamed }
+{}
+
+/// A deed that is no step does so in every world.
+pub fn answers_drop_what_is_named()
+    ensures { AnswersDropWhatIsNamed }
 {}
 
 /// Each deed of a run is an answer, a step, or a restart that changed nothing.

@@ -151,8 +151,9 @@ free_ascend v = (
 
 -- ---- nothing is overwritten
 
-abbrev Lands : Image → (ℕ → Type 0) → ℕ → Block → Type 0
-Lands destination P p b = (b.tag ≡ 0) ⊎ (slice_get destination p ≡ Some b) ⊎ P b.tag
+-- it is a hole, the base's block, or the leg's bytes at a number with P
+abbrev pub Lands : Image → Image → (ℕ → Type 0) → ℕ → Block → Type 0
+Lands leg destination P p b = (b ≡ hole) ⊎ (slice_get destination p ≡ Some b) ⊎ (P b.tag × (c : Block) × (slice_get leg p ≡ Some c) × (b.bytes ≡ c.bytes))
 
 hole_tag : hole.tag ≡ 0
 unfolding hole
@@ -170,34 +171,39 @@ rest_long : (n : ℕ) (free : List ℕ) → suc n ≤ length free → n ≤ leng
 rest_long n [] l = omega arith
 rest_long n (t ∷ ts) l = omega arith
 
-kept_lands : (destination : Image) (P : ℕ → Type 0) (z : Bool) (b : Block) → Some (cond z hole (first_block destination)) ≡ Some b → Lands destination P 0 b
-kept_lands destination P true b e = inl (sym (ap (λ c. c.tag) (same_Some hole b e)) ∙ hole_tag)
-kept_lands [] P false b e = inl (sym (ap (λ c. c.tag) (same_Some hole b e)) ∙ hole_tag)
-kept_lands (c ∷ cs) P false b e = inr (inl e)
+kept_lands : (leg destination : Image) (P : ℕ → Type 0) (z : Bool) (b : Block) → Some (cond z hole (first_block destination)) ≡ Some b → Lands leg destination P 0 b
+kept_lands leg destination P true b e = inl (sym (same_Some hole b e))
+kept_lands leg [] P false b e = inl (sym (same_Some hole b e))
+kept_lands leg (c ∷ cs) P false b e = inr (inl e)
 
-next_lands : (destination : Image) (P : ℕ → Type 0) (p : ℕ) (b : Block) → Lands (rest destination) P p b → Lands destination P (suc p) b
-next_lands destination P p b (inl e) = inl e
-next_lands destination P p b (inr (inl e)) = inr (inl (sym (next_get destination p) ∙ e))
-next_lands destination P p b (inr (inr h)) = inr (inr h)
+next_lands : (x : Block) (leg destination : Image) (P : ℕ → Type 0) (p : ℕ) (b : Block) → Lands leg (rest destination) P p b → Lands (x ∷ leg) destination P (suc p) b
+next_lands x leg destination P p b (inl e) = inl e
+next_lands x leg destination P p b (inr (inl e)) = inr (inl (sym (next_get destination p) ∙ e))
+next_lands x leg destination P p b (inr (inr h)) = inr (inr h)
 
-lands_free : (P : ℕ → Type 0) (at : ℕ) (leg source destination : Image) (free : List ℕ) → length (missing_from at leg source) ≤ length free → ((t : ℕ) → Among free t → P t) →
-    (p : ℕ) (b : Block) → slice_get (landed_from leg source destination free) p ≡ Some b → Lands destination P p b
+pub lands_free : (P : ℕ → Type 0) (at : ℕ) (leg source destination : Image) (free : List ℕ) → length (missing_from at leg source) ≤ length free → ((t : ℕ) → Among free t → P t) →
+    (p : ℕ) (b : Block) → slice_get (landed_from leg source destination free) p ≡ Some b → Lands leg destination P p b
 lands_free P at [] source destination free l h p b e = absurd (cc)
 lands_free P at (x ∷ xs) source destination free l h p b e = go (is_missing_at x.tag (first_tag source)) l p e (λ f. lands_free P (suc at) xs (rest source) (rest destination) f)
   where
     go : (m : Bool) → length (cond m (at ∷ missing_from (suc at) xs (rest source)) (missing_from (suc at) xs (rest source))) ≤ length free → (p : ℕ) →
         slice_get (cond m (moved x (first_number free) ∷ landed_from xs (rest source) (rest destination) (rest free)) (cond (x.tag == 0) hole (first_block destination) ∷ landed_from xs (rest source) (rest destination) free)) p ≡ Some b →
-        ((f : List ℕ) → length (missing_from (suc at) xs (rest source)) ≤ length f → ((t : ℕ) → Among f t → P t) → (q : ℕ) (c : Block) → slice_get (landed_from xs (rest source) (rest destination) f) q ≡ Some c → Lands (rest destination) P q c) →
-        Lands destination P p b
-    go true l zero e ih = inr (inr (subst (λ c. P c.tag) (same_Some (moved x (first_number free)) b e) (first_free P free (omega arith) h)))
-    go true l (suc p) e ih = next_lands destination P p b (ih (rest free) (rest_long (length (missing_from (suc at) xs (rest source))) free (omega arith)) (rest_free P free h) p b e)
-    go false l zero e ih = kept_lands destination P (x.tag == 0) b e
-    go false l (suc p) e ih = next_lands destination P p b (ih free l h p b e)
+        ((f : List ℕ) → length (missing_from (suc at) xs (rest source)) ≤ length f → ((t : ℕ) → Among f t → P t) → (q : ℕ) (c : Block) → slice_get (landed_from xs (rest source) (rest destination) f) q ≡ Some c → Lands xs (rest destination) P q c) →
+        Lands (x ∷ xs) destination P p b
+    go true l zero e ih = let same = same_Some (moved x (first_number free)) b e in inr (inr (subst (λ c. P c.tag) same (first_free P free (omega arith) h), x, refl, ap bytes_of (sym same)))
+    go true l (suc p) e ih = next_lands x xs destination P p b (ih (rest free) (rest_long (length (missing_from (suc at) xs (rest source))) free (omega arith)) (rest_free P free h) p b e)
+    go false l zero e ih = kept_lands (x ∷ xs) destination P (x.tag == 0) b e
+    go false l (suc p) e ih = next_lands x xs destination P p b (ih free l h p b e)
 
 pub overwrites_nothing : (leg : Image) (bases : Bases) (v : Volume) → vault_cost leg bases ≤ length (free_tags v) →
     (p : ℕ) (b : Block) → slice_get (vault_landing leg bases (free_tags v)) p ≡ Some b → LandsFree v bases p b
 overwrites_nothing leg bases v l p b e =
-    lands_free (λ t. stands t (tags_of v) ≡ false) 0 leg bases.at_source bases.at_destination (free_tags v) l (λ t m. (free_from v t m).2) p b e
+    go (lands_free (λ t. stands t (tags_of v) ≡ false) 0 leg bases.at_source bases.at_destination (free_tags v) l (λ t m. (free_from v t m).2) p b e)
+  where
+    go : Lands leg bases.at_destination (λ t. stands t (tags_of v) ≡ false) p b → LandsFree v bases p b
+    go (inl h) = inl (ap tag_of h ∙ hole_tag)
+    go (inr (inl h)) = inr (inl h)
+    go (inr (inr h)) = inr (inr h.0)
 
 -- ---- maps alone
 

@@ -1,4 +1,4 @@
-use Rattle.sm_laws.proofs.Replies.{refusal_listed}
+use Rattle.sm_laws.proofs.Listing.{refusal_listed}
 use Rattle.sm_laws.proofs.refusals_are_listed.Goals as goal
 
 pub returns : goal.returns

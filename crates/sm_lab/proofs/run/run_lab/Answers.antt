@@ -26,9 +26,7 @@ returns-clause-drops g c =
     drops d.new.history.items (early (g.S.Source.left c.args.script.now) (g.S.Source.left d.new.script) d.result d.new.history.items d.ensures.run.1)
 
 pub returns-clause-bases : goal.returns-clause-bases
-returns-clause-bases g c =
-    let d = c.decide-status in
-    bases d.new.history.items (early (g.S.Source.left c.args.script.now) (g.S.Source.left d.new.script) d.result d.new.history.items d.ensures.run.1)
+returns-clause-bases g c = bases c.decide-status.new.history.items
 
 pub returns-clause-output : goal.returns-clause-output
 returns-clause-output g c =

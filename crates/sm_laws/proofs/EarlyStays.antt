@@ -1,0 +1,54 @@
+-- An early event leads from a sound world without relationships and policies to another.
+use Rattle.std.proofs.Common.{◌≡◌, refl, ◌∙◌}
+use Rattle.sm_defs.specs.World.{Up}
+use Rattle.sm_model.specs.declared.event.Event.{Event}
+use Rattle.sm_model.specs.Answer.{answer}
+use Rattle.sm_model.specs.InRange.{IsGiven}
+use Rattle.sm_model.specs.World.{Deed}
+use Rattle.sm_model.specs.LegalRun.{IsDeed}
+use Rattle.sm_model.specs.Formed.{Formed}
+use Rattle.sm_model.specs.Sound.{SoundUp}
+use Rattle.step_laws.proofs.Walk.{past, with_found, with_ok, now}
+use Rattle.step_laws.proofs.OfAnswer.{OfAnswer, of_answer}
+use Rattle.step_laws.proofs.Deeds.{of_done}
+use Rattle.step_laws.proofs.DropsOfEvents.{done_gives}
+use Rattle.step_laws.proofs.TagsStay as tags
+use Rattle.step_laws.proofs.CopiesStay.{deeds_keep_copies}
+use Rattle.step_laws.proofs.NumbersStay.{deeds_keep_numbers}
+use Rattle.step_laws.proofs.FamiliesStay.{answered_agree, deeds_keep_given}
+use Rattle.step_laws.proofs.DestinationsStay as destinations
+use Rattle.step_laws.proofs.FormedEvents as formed
+use Rattle.sm_laws.specs.Early.{IsEarly, creates, writes, snaps, reads, heads, lists, digests, IsBare}
+use Rattle.sm_laws.proofs.Entries.{deed_done}
+use Rattle.sm_laws.proofs.Bare.{sound_if_bare}
+
+abbrev Leaves : Up → Up → Type 0
+Leaves w u = (u.relations ≡ w.relations) × (u.policies ≡ w.policies)
+
+leaves : (w : Up) {e : Event} → IsEarly e → OfAnswer (λ r. Leaves w r.world) (answer w e)
+unfolding answer OfAnswer
+leaves w (creates path disk kind logical physical) = past _ _ _ _ (λ _. past _ _ _ _ (λ _. with_found _ _ _ _ (λ len _. past _ _ _ _ (λ _. past _ _ _ _ (λ _. past _ _ _ _ (λ _. now _ _ (refl, refl)))))))
+leaves w (writes path block fill) = with_found _ _ _ _ (λ v _. past _ _ _ _ (λ _. past _ _ _ _ (λ _. past _ _ _ _ (λ _. now _ _ (refl, refl)))))
+leaves w (snaps path name label) = with_found _ _ _ _ (λ v _. past _ _ _ _ (λ _. past _ _ _ _ (λ _. past _ _ _ _ (λ _. now _ _ (refl, refl)))))
+leaves w (reads path name block) = with_found _ _ _ _ (λ v _. with_ok _ _ _ (λ i _. past _ _ _ _ (λ _. now _ _ (refl, refl))))
+leaves w heads = now _ _ (refl, refl)
+leaves w (lists volume) = now _ _ (refl, refl)
+leaves w (digests volume place) = now _ _ (refl, refl)
+
+pub early_keeps : (e : Event) (d : Deed) → IsEarly e → IsGiven e → IsDeed e d → SoundUp d.old → IsBare d.old → SoundUp d.new × IsBare d.new
+early_keeps e d y g i s b =
+    let done = deed_done d y i in
+    let a = of_done e (answer d.old e) d (of_answer d.old e) done in
+    let l = done_gives (Leaves d.old) (answer d.old e) d (leaves d.old y) done in
+    let bare : IsBare d.new = record { relations = l.0 ∙ b.relations; policies = l.1 ∙ b.policies } in (
+      sound_if_bare d.new bare (record {
+        formed = done_gives Formed (answer d.old e) d (formed.of_answer d.old e s g) done;
+        tags_fit = tags.of_deed e d s i;
+        copies_agree = deeds_keep_copies e d s i;
+        families_agree = answered_agree d.old d.new e a.tells s a.is;
+        destinations = destinations.of_answer d.old d.new e a.tells s.destinations_stand.volumes a.is;
+        numbers_stand = deeds_keep_numbers e d s g i;
+        families = deeds_keep_given e d s i;
+      }),
+      bare,
+    )
