@@ -1,4 +1,0 @@
-use Rattle.plain_transfers.proofs.starting.+numbers_from.Given as goal
-
-abbrev pub decreases-numbers_from : goal.decreases-numbers_from
-decreases-numbers_from l = l.count
