@@ -12,7 +12,7 @@ use Rattle.sm_defs.specs.Retention.{is_reached, keep_reached, with_kept, keeps}
 use Rattle.plain_machine.specs.Places.{place_of, is_at}
 
 -- a list's others, as a pattern takes them
-others_are : {X : Type 0} (xs : List X) → take (suc (length xs) - 1) xs ≡ xs
+pub others_are : {X : Type 0} (xs : List X) → take (suc (length xs) - 1) xs ≡ xs
 others_are xs = let e : suc (length xs) - 1 ≡ length xs = omega arith in rw e (take-length xs)
 
 pub kept_too : (rules : List Rule) (needs : Ident → Bool) (s copy : Snapshot) (kept : List Snapshot) → copy ≡ s → keeps rules needs s kept ≡ true → with_kept rules needs s kept ≡ copy ∷ kept

@@ -13,7 +13,8 @@ use sm_base::{Ident, NoMemory};
 use sm_model::WorldPolicy;
 use std::alloc::Global;
 
-pub(crate) fn sends_all(policy: &WorldPolicy) -> bool
+/// Whether a policy sends every snapshot of the source.
+pub fn sends_all(policy: &WorldPolicy) -> bool
     ensures { result ≡ sends_all policy.now }
 {
     has_rule_for(&policy.rules, b"all_source_snapshots")

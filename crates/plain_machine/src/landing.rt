@@ -10,8 +10,9 @@ use crate::values::{PlainBases, PlainBlock};
 use sm_base::NoMemory;
 use std::alloc::Global;
 
+/// A block that nothing was written to.
 #[tactic(auto, unfolding(sm_defs::specs::Image::hole))]
-fn hole(alloc: Global) -> Result<PlainBlock, NoMemory>
+pub fn hole(alloc: Global) -> Result<PlainBlock, NoMemory>
     ensures { IfOk result (λ block. block ≡ hole) }
 {
     Ok(PlainBlock {

@@ -10,15 +10,19 @@ mod keeping;
 mod landing;
 mod lists;
 mod missing;
+mod numbers;
 mod sending;
 #[cfg(test)]
 mod tests;
 mod values;
 
-pub use dropping::{common, is_pruned, pruned};
+pub use dropping::{common, is_pruned, pruned, sends_all};
 pub use keeping::{keep_reached, retained};
-pub use landing::vault_landing;
-pub use lists::{has_copy, has_rule_for, is_among, is_same, same_text};
+pub use landing::{hole, vault_landing};
+pub use lists::{has_copy, has_rule_for, is_among, is_same, same_text, with_first};
 pub use missing::{mirror_cost, missing_places, missing_tags, vault_cost};
-pub use sending::{behind, candidates, legs};
-pub use values::{PlainBases, PlainBlock, PlainLegs, PlainSnapshot, PlainSource, copy_image};
+pub use numbers::{landed_prefix, numbers_below, stands};
+pub use sending::{behind, candidates, legs, up_to, without_copies};
+pub use values::{
+    PlainBases, PlainBlock, PlainLegs, PlainSnapshot, PlainSource, copy_image, copy_snapshots,
+};

@@ -79,8 +79,8 @@ pub(crate) fn behind_first(image: &[PlainBlock]) -> &[PlainBlock]
     }
 }
 
-// The list with one more at its front.
-pub(crate) fn with_first(
+/// The list with one more at its front.
+pub fn with_first(
     first: PlainSnapshot,
     mut others: Vec<PlainSnapshot>,
 ) -> Result<Vec<PlainSnapshot>, NoMemory>

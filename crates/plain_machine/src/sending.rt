@@ -4,7 +4,7 @@ ghost use Rattle.std.specs.Option.{is_some};
 ghost use Rattle.sm_defs.specs.Relationship.{rule_for};
 ghost use Rattle.std.specs.Prelude.{◌≡◌, ◌<◌, ◌^◌, Some, IfOk};
 ghost use Rattle.std.specs.List.{filter};
-ghost use Rattle.sm_defs.specs.Words.{same_ident, after};
+ghost use Rattle.sm_defs.specs.Words.{same_ident, after, up_to};
 ghost use Rattle.sm_defs.specs.Volume.{has, idents};
 ghost use Rattle.sm_defs.specs.Legs.{after_base, candidates, only_newest, has_rule, made_ident, mirror_legs, vault_legs, legs};
 
@@ -31,6 +31,27 @@ pub fn behind(snapshots: &[PlainSnapshot], base: Ident) -> &[PlainSnapshot]
     }
 }
 
+/// The snapshots up to the first of the identity, that one too.
+pub fn up_to(
+    alloc: Global,
+    snapshots: &[PlainSnapshot],
+    base: Ident,
+) -> Result<Vec<PlainSnapshot>, NoMemory>
+    ensures { IfOk result (λ all. all.items ≡ up_to (λ s. same_ident s.ident base) snapshots.now) }
+{
+    match snapshots {
+        [] => Ok(Vec::new(alloc)),
+        [snapshot, newer @ ..] => {
+            let first = snapshot.copy(alloc)?;
+            if is_same(snapshot.ident, base) {
+                with_first(first, Vec::new(alloc))
+            } else {
+                with_first(first, up_to(alloc, newer, base)?)
+            }
+        }
+    }
+}
+
 fn behind_base(snapshots: &[PlainSnapshot], base: Option<Ident>) -> &[PlainSnapshot]
     ensures { result.now ≡ after_base base snapshots.now }
 {
@@ -40,24 +61,25 @@ fn behind_base(snapshots: &[PlainSnapshot], base: Option<Ident>) -> &[PlainSnaps
     }
 }
 
-fn is_new(destination: &[PlainSnapshot], ident: Ident) -> bool
-    ensures { result ≡ not (has destination.now ident) }
+fn is_new(others: &[PlainSnapshot], ident: Ident) -> bool
+    ensures { result ≡ not (has others.now ident) }
 {
-    !has_copy(destination, ident)
+    !has_copy(others, ident)
 }
 
-fn without_copies(
+/// The snapshots of which the others have no copy.
+pub fn without_copies(
     alloc: Global,
     snapshots: &[PlainSnapshot],
-    destination: &[PlainSnapshot],
+    others: &[PlainSnapshot],
 ) -> Result<Vec<PlainSnapshot>, NoMemory>
-    ensures { IfOk result (λ new. new.items ≡ filter (λ s. not (has destination.now s.ident)) snapshots.now) }
+    ensures { IfOk result (λ new. new.items ≡ filter (λ s. not (has others.now s.ident)) snapshots.now) }
 {
     match snapshots {
         [] => Ok(Vec::new(alloc)),
         [snapshot, newer @ ..] => {
-            let new = without_copies(alloc, newer, destination)?;
-            if is_new(destination, snapshot.ident) {
+            let new = without_copies(alloc, newer, others)?;
+            if is_new(others, snapshot.ident) {
                 with_first(snapshot.copy(alloc)?, new)
             } else {
                 Ok(new)

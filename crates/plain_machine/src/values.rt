@@ -115,6 +115,20 @@ impl PlainSnapshot {
     }
 }
 
+/// The same snapshots.
+pub fn copy_snapshots(
+    alloc: Global,
+    snapshots: &[PlainSnapshot],
+) -> Result<Vec<PlainSnapshot>, NoMemory>
+    ensures { IfOk result (λ copy. copy.items ≡ snapshots.now) }
+{
+    let mut copy = Vec::new(alloc);
+    for snapshot in snapshots {
+        copy.push(snapshot.copy(alloc)?)?;
+    }
+    Ok(copy)
+}
+
 /// The same image.
 pub fn copy_image(alloc: Global, image: &[PlainBlock]) -> Result<Vec<PlainBlock>, NoMemory>
     ensures { IfOk result (λ copy. copy.items ≡ image.now) }

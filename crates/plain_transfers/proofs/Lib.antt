@@ -1,5 +1,4 @@
 pub mod Begun
 pub mod Holding
 pub mod Onward
-pub mod Reverting
 pub mod Whether

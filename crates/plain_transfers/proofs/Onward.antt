@@ -14,8 +14,7 @@ use Rattle.sm_model.specs.OfTransfers as model
 use Rattle.plain_world.specs.declared.values.PlainFault.{PlainFault}
 use Rattle.plain_transfers.specs.declared.target.PlainTarget.{PlainTarget}
 use Rattle.plain_volumes.specs.Answering.{Answers}
-use Rattle.plain_transfers.specs.Targets.{IsTarget}
-use Rattle.plain_transfers.specs.Needing.{IsOfOne}
+use Rattle.plain_transfers.specs.Targets.{IsTarget, IsOfOne}
 
 -- what answers the last call answers the event
 pub onward : (old new : Up) (a b : Answer) (r : Result Reply PlainFault) → a ≡ b → IfOk r (λ reply. Answers old b reply new) → IfOk r (λ reply. Answers old a reply new)

@@ -1,2 +1,1 @@
-pub mod Needing
 pub mod Targets

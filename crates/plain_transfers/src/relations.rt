@@ -14,10 +14,12 @@ ghost use Rattle.plain_transfers.specs.Targets.{IsReleased};
 
 use crate::targets::{has_transfer, is_bare, no_target, relation, target};
 use plain_volumes::{
-    is_writable, place_of, place_of_policy, policy, refuse_path, refuse_policy, small, volume,
+    is_writable, place_of, place_of_policy, policy, refuse_path, refuse_policy, volume,
 };
-use plain_world::{PlainEdges, PlainFault, PlainVolume, PlainWorld, relation_to, upstream};
-use sm_base::{Kind, Path, Path1, PolicyKind, Refusal, RelNo, VolNo, What};
+use plain_world::{
+    PlainEdges, PlainFault, PlainVolume, PlainWorld, is_mirror, relation_to, small, upstream,
+};
+use sm_base::{Kind, Path, Path1, Refusal, RelNo, VolNo, What};
 use sm_model::{Reply, WorldRelation};
 use std::alloc::Global;
 
@@ -40,10 +42,7 @@ fn sizes_differ(world: &PlainWorld, policy_place: usize, source: usize, destinat
 {
     let from = volume(world, source);
     let to = volume(world, destination);
-    let mirrors = match policy(world, policy_place).kind {
-        PolicyKind::AsyncMirror => true,
-        PolicyKind::Vault => false,
-    };
+    let mirrors = is_mirror(policy(world, policy_place).kind);
     from.logical != to.logical || (mirrors && from.physical != to.physical)
 }
 

@@ -1,8 +1,6 @@
 // What a new transfer sends, and how it begins.
-ghost use Rattle.std.specs.Prelude.{◌≡◌, ◌<◌, ◌+◌, ◌^◌, ◌==◌, length, IfOk, OnOk};
+ghost use Rattle.std.specs.Prelude.{◌≡◌, ◌<◌, ◌≤◌, ◌==◌, length, IfOk, OnOk, OnErr};
 ghost use Rattle.sm_defs.specs.Limits.{last_number};
-ghost use Rattle.sm_defs.specs.Relationship.{is_mirror};
-ghost use Rattle.sm_defs.specs.Volume.{numbers};
 ghost use Rattle.sm_defs.specs.Edges.{is_empty};
 ghost use Rattle.sm_defs.specs.Retention.{labels, keep_reached};
 ghost use Rattle.sm_defs.specs.World.{volume_at, policy_at, relation_at, with_relation};
@@ -10,25 +8,16 @@ ghost use Rattle.sm_model.specs.OfTransfers as model;
 ghost use Rattle.plain_volumes.specs.Answering.{Answers};
 
 use crate::targets::relation;
-use plain_machine::{PlainLegs, PlainSnapshot, PlainSource, is_among, keep_reached, legs};
-use plain_volumes::{policy, small};
-use plain_world::{PlainFault, PlainWorld, kind_at, snapshots_at};
-use sm_base::{Ident, Label, NoMemory, PolicyKind, Refusal, TransferKind, What};
+use plain_machine::{
+    PlainLegs, PlainSnapshot, PlainSource, copy_snapshots, is_among, keep_reached, legs,
+};
+use plain_volumes::policy;
+use plain_world::{
+    PlainFault, PlainWorld, back_at, is_mirror, kind_at, small, snapshots_at, with_transfer,
+};
+use sm_base::{Ident, Label, NoMemory, Refusal, TransferKind, What};
 use sm_model::{Reply, WorldPolicy, WorldRelation, WorldRule, WorldTransfer, copy_label};
 use std::alloc::Global;
-
-pub(crate) fn copy_snapshots(
-    alloc: Global,
-    snapshots: &[PlainSnapshot],
-) -> Result<Vec<PlainSnapshot>, NoMemory>
-    ensures { IfOk result (λ copy. copy.items ≡ snapshots.now) }
-{
-    let mut copy = Vec::new(alloc);
-    for snapshot in snapshots {
-        copy.push(snapshot.copy(alloc)?)?;
-    }
-    Ok(copy)
-}
 
 fn source_of(
     alloc: Global,
@@ -50,7 +39,8 @@ pub fn policy_of<'a>(
     world: &'a PlainWorld,
     relation: &WorldRelation,
 ) -> Result<&'a WorldPolicy, PlainFault>
-    ensures { IfOk result (λ p. p.now ≡ policy_at world.now relation.now.policy) }
+    ensures named { IfOk result (λ p. p.now ≡ policy_at world.now relation.now.policy) }
+    ensures none { OnErr result (length world.now.policies ≤ relation.now.policy) }
 {
     let at = relation.policy as usize;
     if at < world.policies.len() {
@@ -142,15 +132,6 @@ fn test_labels(
     test_rules(alloc, &policy.rules, &labels, &coming)
 }
 
-pub(crate) fn is_mirror(policy: &WorldPolicy) -> bool
-    ensures { result ≡ is_mirror policy.now.kind }
-{
-    match policy.kind {
-        PolicyKind::AsyncMirror => true,
-        PolicyKind::Vault => false,
-    }
-}
-
 #[tactic(auto, unfolding(sm_model::specs::OfTransfers::refused_rule))]
 fn test_policy(
     alloc: Global,
@@ -161,7 +142,7 @@ fn test_policy(
 ) -> Result<Result<(), Refusal>, NoMemory>
     ensures { IfOk result (λ answer. answer ≡ model.room_for policy.now there.now (model.of_idents sent.now source.now)) }
 {
-    if is_mirror(policy) {
+    if is_mirror(policy.kind) {
         return Ok(Ok(()));
     }
     test_labels(alloc, policy, there, sent, source)
@@ -243,23 +224,6 @@ pub(crate) fn put(world: &mut PlainWorld, at: usize, relation: WorldRelation)
     world.relations[at] = relation;
 }
 
-/// The same relationship with another transfer.
-pub(crate) fn with_transfer(relation: &WorldRelation, transfer: WorldTransfer) -> WorldRelation
-    ensures { result ≡ model.with_transfer relation.now transfer }
-{
-    WorldRelation {
-        number: relation.number,
-        source: relation.source,
-        destination: relation.destination,
-        policy: relation.policy,
-        source_half: relation.source_half,
-        destination_half: relation.destination_half,
-        quiesced: relation.quiesced,
-        base: relation.base,
-        transfer: Some(transfer),
-    }
-}
-
 pub(crate) fn is_nothing(legs: &PlainLegs) -> bool
     ensures { result ≡ is_empty legs.now.idents }
 {
@@ -306,7 +270,7 @@ fn begin(
     ensures { OnOk result (world.new ≡ model.with_next_transfer world.old at (model.with_transfer (relation_at world.old at) (model.new_transfer world.old.next_transfer kind legs))) }
 {
     let transfer = new_transfer(alloc, world.next_transfer, kind, legs);
-    let relation = with_transfer(relation(world, at), transfer);
+    let relation = with_transfer(relation(world, at), Some(transfer));
     put_next(world, at, relation)
 }
 
@@ -341,40 +305,6 @@ fn start(
     })
 }
 
-fn numbers_from(alloc: Global, from: u32, count: u32) -> Result<Vec<u32>, NoMemory>
-    requires { from + count < 2 ^ 32 }
-    ensures { IfOk result (λ all. all.items ≡ numbers from count) }
-{
-    if count == 0 {
-        return Ok(Vec::new(alloc));
-    }
-    let mut all = numbers_from(alloc, from + 1, count - 1)?;
-    all.insert(0, from)?;
-    Ok(all)
-}
-
-/// The numbers below a count, in ascending order.
-pub(crate) fn numbers_below(alloc: Global, count: u32) -> Result<Vec<u32>, NoMemory>
-    ensures { IfOk result (λ all. all.items ≡ numbers 0 count) }
-{
-    numbers_from(alloc, 0, count)
-}
-
-fn resumed(alloc: Global, transfer: &WorldTransfer) -> Result<WorldTransfer, NoMemory>
-    ensures { IfOk result (λ again. again ≡ model.resumed transfer.now) }
-{
-    Ok(WorldTransfer {
-        number: transfer.number,
-        kind: transfer.kind,
-        reserved: transfer.reserved,
-        checkpoint: transfer.checkpoint,
-        legs: Vec::from_slice(alloc, &transfer.legs)?,
-        stopped: None,
-        landed: numbers_below(alloc, transfer.checkpoint)?,
-        pruned: false,
-    })
-}
-
 /// Goes on with the transfer of the relationship at a place, or starts one.
 #[tactic(auto, unfolding(sm_model::specs::OfTransfers::resume_or_start))]
 pub(crate) fn resume_or_start(
@@ -392,7 +322,8 @@ pub(crate) fn resume_or_start(
         Some(transfer) => {
             let number = transfer.number;
             let checkpoint = transfer.checkpoint;
-            let relation = with_transfer(relation, resumed(alloc, transfer)?);
+            let resumed = back_at(alloc, transfer, checkpoint, None)?;
+            let relation = with_transfer(relation, Some(resumed));
             put(world, at, relation);
             Ok(Reply::Resumed {
                 transfer: number,

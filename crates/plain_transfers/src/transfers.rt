@@ -1,13 +1,11 @@
 // What events that start, resume or stop a transfer are answered.
-ghost use Rattle.std.specs.Prelude.{◌≡◌, ◌<◌, ◌+◌, ◌^◌, ◌&&◌, not, length, [], IfOk, OnOk, Some, is_some, is_none};
+ghost use Rattle.std.specs.Prelude.{◌≡◌, ◌<◌, ◌&&◌, not, length, IfOk, OnOk, Some, is_some, is_none};
 ghost use Rattle.sm_base.specs.declared.numbers.TransferKind.TheVariants.{Resync};
 ghost use Rattle.sm_defs.specs.Relationship.{is_mirror};
 ghost use Rattle.plain_world.specs.Finding.{number_of};
-ghost use Rattle.plain_transfers.specs.Needing.{needed_but, IsOfOne};
+ghost use Rattle.plain_transfers.specs.Targets.{IsOfOne};
 ghost use Rattle.std.specs.Option.{option_map};
 ghost use Rattle.std.specs.List.{find};
-ghost use Rattle.sm_defs.specs.Words.{up_to, same_ident};
-ghost use Rattle.sm_defs.specs.Image.{stands};
 ghost use Rattle.sm_defs.specs.Edges.{is_empty, upstream};
 ghost use Rattle.sm_defs.specs.Common.{common};
 ghost use Rattle.sm_defs.specs.World.{volume_at, policy_at, relation_at, with_relation};
@@ -15,17 +13,20 @@ ghost use Rattle.sm_model.specs.OfTransfers as model;
 ghost use Rattle.plain_volumes.specs.Answering.{Answers};
 
 use crate::starting::{
-    copy_snapshots, count_legs, has_all_transfers, new_transfer, next_legs, next_number,
-    numbers_below, put, put_next, resume_or_start, test_room, with_transfer,
+    count_legs, has_all_transfers, new_transfer, next_legs, next_number, put, put_next,
+    resume_or_start, test_room,
 };
 use crate::targets::{is_bare, is_running, no_target, relation, target};
-use plain_machine::{PlainLegs, PlainSnapshot, behind, common, has_copy, is_same};
-use plain_volumes::{is_writable, small};
-use plain_world::{
-    PlainEdges, PlainFault, PlainWorld, needed_at_source, needed_for, policy_kind_at, snapshots_at,
-    upstream, volume_at,
+use plain_machine::{
+    PlainLegs, PlainSnapshot, behind, common, copy_snapshots, has_copy, landed_prefix, up_to,
 };
-use sm_base::{Ident, NoMemory, Path, PolicyKind, Reason, Refusal, RelNo, TransferKind, What};
+use plain_volumes::is_writable;
+use plain_world::{
+    PlainEdges, PlainFault, PlainWorld, back_at, copy_transfer, is_mirror, needed_at_source,
+    needed_for, policy_kind_at, small, snapshots_at, upstream, volume_at, with_base, with_legs,
+    with_transfer,
+};
+use sm_base::{Ident, NoMemory, Path, Reason, Refusal, RelNo, TransferKind, What};
 use sm_model::{Reply, WorldRelation, WorldTransfer};
 use std::alloc::Global;
 
@@ -74,10 +75,7 @@ fn family_at(world: &PlainWorld, at: usize) -> u64
 fn is_mirror_of(world: &PlainWorld, relation: &WorldRelation) -> bool
     ensures { result ≡ is_mirror (policy_at world.now relation.now.policy).kind }
 {
-    match policy_kind_at(world, relation.policy as usize) {
-        PolicyKind::AsyncMirror => true,
-        PolicyKind::Vault => false,
-    }
+    is_mirror(policy_kind_at(world, relation.policy as usize))
 }
 
 fn has_other_layout(world: &PlainWorld, at: usize) -> bool
@@ -132,83 +130,6 @@ pub fn update(
     resume_or_start(world, alloc, t.relation, TransferKind::Update)
 }
 
-fn stands(numbers: &[u32], number: u32) -> bool
-    ensures { result ≡ stands number numbers.now }
-{
-    numbers.iter().any(|n| *n == number)
-}
-
-fn prefix_from(landed: &[u32], count: u32, from: u32) -> u32
-    requires { from + count < 2 ^ 32 }
-    ensures { result ≡ model.prefix_from count from landed.now }
-{
-    if count == 0 || !stands(landed, from) {
-        return from;
-    }
-    prefix_from(landed, count - 1, from + 1)
-}
-
-fn landed_prefix(landed: &[u32]) -> Result<u32, PlainFault>
-    ensures { IfOk result (λ count. count ≡ model.landed_prefix landed.now) }
-{
-    let count = small(landed.len())?;
-    Ok(prefix_from(landed, count, 0))
-}
-
-fn copy_transfer(alloc: Global, transfer: &WorldTransfer) -> Result<WorldTransfer, NoMemory>
-    ensures { IfOk result (λ copy. copy ≡ transfer.now) }
-{
-    Ok(WorldTransfer {
-        number: transfer.number,
-        kind: transfer.kind,
-        reserved: transfer.reserved,
-        checkpoint: transfer.checkpoint,
-        legs: Vec::from_slice(alloc, &transfer.legs)?,
-        stopped: transfer.stopped,
-        landed: Vec::from_slice(alloc, &transfer.landed)?,
-        pruned: transfer.pruned,
-    })
-}
-
-fn with_later(
-    alloc: Global,
-    transfer: &WorldTransfer,
-    later: &[Ident],
-) -> Result<WorldTransfer, NoMemory>
-    ensures { IfOk result (λ next. next ≡ record transfer.now { legs = later.now; checkpoint = 0; landed = [] }) }
-{
-    Ok(WorldTransfer {
-        number: transfer.number,
-        kind: transfer.kind,
-        reserved: transfer.reserved,
-        checkpoint: 0,
-        legs: Vec::from_slice(alloc, later)?,
-        stopped: transfer.stopped,
-        landed: Vec::new(alloc),
-        pruned: transfer.pruned,
-    })
-}
-
-fn with_base(
-    relation: &WorldRelation,
-    base: Option<Ident>,
-    transfer: Option<WorldTransfer>,
-) -> WorldRelation
-    ensures { result ≡ record relation.now { base = base; transfer = transfer } }
-{
-    WorldRelation {
-        number: relation.number,
-        source: relation.source,
-        destination: relation.destination,
-        policy: relation.policy,
-        source_half: relation.source_half,
-        destination_half: relation.destination_half,
-        quiesced: relation.quiesced,
-        base,
-        transfer,
-    }
-}
-
 fn settled_by(
     alloc: Global,
     there: &[PlainSnapshot],
@@ -220,13 +141,13 @@ fn settled_by(
     ensures { IfOk result (λ r. r ≡ model.settled_if_there there.now relation.now transfer.now legs.now) }
 {
     match legs {
-        [] => Ok(with_transfer(relation, copy_transfer(alloc, transfer)?)),
-        [first, later @ ..] => {
-            if !has_copy(there, *first) {
-                return Ok(with_transfer(relation, copy_transfer(alloc, transfer)?));
-            }
-            let transfer = with_later(alloc, transfer, later)?;
+        [first, later @ ..] if has_copy(there, *first) => {
+            let transfer = with_legs(alloc, transfer, later)?;
             Ok(with_base(relation, Some(*first), Some(transfer)))
+        }
+        _ => {
+            let transfer = copy_transfer(alloc, transfer)?;
+            Ok(with_transfer(relation, Some(transfer)))
         }
     }
 }
@@ -285,22 +206,6 @@ fn is_done(transfer: &WorldTransfer) -> bool
     transfer.legs.is_empty()
 }
 
-fn halted(alloc: Global, transfer: &WorldTransfer, prefix: u32) -> Result<WorldTransfer, NoMemory>
-    requires { prefix ≡ model.landed_prefix transfer.now.landed }
-    ensures { IfOk result (λ t. t ≡ model.halted transfer.now) }
-{
-    Ok(WorldTransfer {
-        number: transfer.number,
-        kind: transfer.kind,
-        reserved: transfer.reserved,
-        checkpoint: prefix,
-        legs: Vec::from_slice(alloc, &transfer.legs)?,
-        stopped: Some(Reason::Aborted),
-        landed: numbers_below(alloc, prefix)?,
-        pruned: false,
-    })
-}
-
 // Whether a transfer that is stopped is to be stopped, and not discarded.
 fn is_halted_again(hard: bool, transfer: &WorldTransfer) -> bool
     ensures { result ≡ (not hard && is_some transfer.now.stopped) }
@@ -322,12 +227,12 @@ fn abort_settled(
 {
     let transfer = transfer_or(alloc, &relation, &transfer)?;
     if hard || is_done(&transfer) {
-        put(world, at, with_base(&relation, relation.base, None));
+        put(world, at, with_transfer(&relation, None));
         return Ok(Reply::Ended);
     }
-    let prefix = landed_prefix(&transfer.landed)?;
-    let halted = halted(alloc, &transfer, prefix)?;
-    put(world, at, with_transfer(&relation, halted));
+    let prefix = small(landed_prefix(&transfer.landed))?;
+    let halted = back_at(alloc, &transfer, prefix, Some(Reason::Aborted))?;
+    put(world, at, with_transfer(&relation, Some(halted)));
     Ok(Reply::Kept { checkpoint: prefix })
 }
 
@@ -391,14 +296,14 @@ fn newest_common(world: &PlainWorld, destination: usize, at: usize) -> Option<Id
 
 fn is_needed_otherwise(
     world: &PlainWorld,
-    volume: u32,
     ident: Ident,
-    number: RelNo,
+    relation: &WorldRelation,
     other: &WorldRelation,
 ) -> bool
-    ensures { result ≡ needed_but world.now volume ident number.0 other.now }
+    ensures { result ≡ model.needed_otherwise world.now relation.now.destination ident relation.now other.now }
 {
-    if other.number.0 == number.0 {
+    let volume = relation.destination.0;
+    if other.number.0 == relation.number.0 {
         needed_at_source(world, volume, ident, other)
     } else {
         needed_for(world, volume, ident, other)
@@ -408,49 +313,49 @@ fn is_needed_otherwise(
 fn other_holder(
     world: &PlainWorld,
     relations: &[WorldRelation],
-    volume: u32,
     ident: Ident,
-    number: RelNo,
+    relation: &WorldRelation,
 ) -> Option<RelNo>
-    ensures { result ≡ option_map number_of (find (needed_but world.now volume ident number.0) relations.now) }
+    ensures { result ≡ option_map number_of (find (model.needed_otherwise world.now relation.now.destination ident relation.now) relations.now) }
 {
     match relations {
         [] => None,
         [other, others @ ..] => {
-            if is_needed_otherwise(world, volume, ident, number, other) {
+            if is_needed_otherwise(world, ident, relation, other) {
                 Some(other.number)
             } else {
-                other_holder(world, others, volume, ident, number)
+                other_holder(world, others, ident, relation)
             }
         }
     }
 }
 
-fn holder_but(world: &PlainWorld, volume: u32, ident: Ident, number: RelNo) -> Option<RelNo>
-    ensures { result ≡ option_map number_of (find (needed_but world.now volume ident number.0) world.now.relations) }
+fn holder_otherwise(world: &PlainWorld, ident: Ident, relation: &WorldRelation) -> Option<RelNo>
+    ensures { result ≡ option_map number_of (find (model.needed_otherwise world.now relation.now.destination ident relation.now) world.now.relations) }
 {
-    other_holder(world, &world.relations, volume, ident, number)
+    other_holder(world, &world.relations, ident, relation)
 }
 
-// Whether one of these snapshots is needed on the volume, but for the relationship's own base there.
+// Whether one of these snapshots is needed at the destination, but for the relationship's own base there.
 #[tactic(auto, unfolding(sm_model::specs::OfTransfers::held_downstream))]
 fn test_each(
     world: &PlainWorld,
     snapshots: &[PlainSnapshot],
-    volume: u32,
-    number: RelNo,
+    relation: &WorldRelation,
 ) -> Result<(), Refusal>
-    ensures { result ≡ model.held_downstream (model.first_held (λ i. find (needed_but world.now volume i number.0) world.now.relations) snapshots.now) }
+    ensures { result ≡ model.held_downstream (model.first_held (λ i. find (model.needed_otherwise world.now relation.now.destination i relation.now) world.now.relations) snapshots.now) }
 {
     match snapshots {
         [] => Ok(()),
-        [snapshot, newer @ ..] => match holder_but(world, volume, snapshot.ident, number) {
-            Some(relation) => Err(Refusal::HeldDownstream {
-                ident: snapshot.ident,
-                relation,
-            }),
-            None => test_each(world, newer, volume, number),
-        },
+        [snapshot, newer @ ..] => {
+            match holder_otherwise(world, snapshot.ident, relation) {
+                Some(holder) => Err(Refusal::HeldDownstream {
+                    ident: snapshot.ident,
+                    relation: holder,
+                }),
+                None => test_each(world, newer, relation),
+            }
+        }
     }
 }
 
@@ -464,8 +369,7 @@ fn test_past(world: &PlainWorld, at: usize, past: &[PlainSnapshot]) -> Result<()
     requires { at < length world.now.relations }
     ensures { let r = relation_at world.now at in result ≡ model.held_downstream (model.first_held (λ i. find (model.needed_otherwise world.now r.destination i r) world.now.relations) past.now) }
 {
-    let relation = relation(world, at);
-    test_each(world, past, relation.destination.0, relation.number)
+    test_each(world, past, relation(world, at))
 }
 
 #[tactic(auto, unfolding(sm_model::specs::OfTransfers::held_downstream))]
@@ -484,28 +388,6 @@ fn test_reverted(
     test_past(world, at, past_base(world, destination, base))
 }
 
-fn first_up_to(
-    alloc: Global,
-    snapshots: &[PlainSnapshot],
-    base: Ident,
-) -> Result<Vec<PlainSnapshot>, NoMemory>
-    ensures { IfOk result (λ left. left.items ≡ up_to (λ s. same_ident s.ident base) snapshots.now) }
-{
-    match snapshots {
-        [] => Ok(Vec::new(alloc)),
-        [snapshot, newer @ ..] => {
-            if is_same(snapshot.ident, base) {
-                let mut left = Vec::new(alloc);
-                left.push(snapshot.copy(alloc)?)?;
-                return Ok(left);
-            }
-            let mut left = first_up_to(alloc, newer, base)?;
-            left.insert(0, snapshot.copy(alloc)?)?;
-            Ok(left)
-        }
-    }
-}
-
 fn reverted(
     alloc: Global,
     world: &PlainWorld,
@@ -518,7 +400,7 @@ fn reverted(
 {
     let there = snapshots_at(world, destination);
     if is_mirror_of(world, relation(world, at)) {
-        first_up_to(alloc, there, base)
+        up_to(alloc, there, base)
     } else {
         copy_snapshots(alloc, there)
     }
@@ -528,15 +410,9 @@ fn resynced(relation: &WorldRelation, base: Ident, transfer: WorldTransfer) -> W
     ensures { result ≡ model.resynced relation.now base transfer }
 {
     WorldRelation {
-        number: relation.number,
-        source: relation.source,
-        destination: relation.destination,
-        policy: relation.policy,
         source_half: true,
-        destination_half: relation.destination_half,
         quiesced: false,
-        base: Some(base),
-        transfer: Some(transfer),
+        ..with_base(relation, Some(base), Some(transfer))
     }
 }
 

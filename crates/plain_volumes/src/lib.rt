@@ -8,6 +8,6 @@ mod pieces;
 mod policies;
 mod volumes;
 
-pub use pieces::{is_writable, place_of, refuse_path, small, volume};
+pub use pieces::{is_writable, place_of, refuse_path, volume};
 pub use policies::{add_rule, create_policy, place_of_policy, policy, refuse_policy, set_clock};
 pub use volumes::{cp, create_volume, read, snap, unsnap, write};

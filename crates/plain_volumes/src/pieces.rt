@@ -8,21 +8,11 @@ ghost use Rattle.sm_defs.specs.World.{volume_at};
 ghost use Rattle.plain_world.specs.Finding.{IsFound};
 ghost use Rattle.sm_defs.specs.Image.{hole, full_block};
 
-use plain_machine::PlainBlock;
+use plain_machine::{PlainBlock, hole};
 use plain_world::{PlainFault, PlainVolume, PlainWorld, is_rw, kind_at, volume_named};
 use sm_base::{NoMemory, Path, Refusal, SnapName};
 use sm_model::Reply;
 use std::alloc::Global;
-
-/// A count or a place as a number of a reply.
-pub fn small(count: usize) -> Result<u32, PlainFault>
-    ensures { IfOk result (λ number. number ≡ count) }
-{
-    if count > u32::MAX as usize {
-        return Err(PlainFault::TooGreat);
-    }
-    Ok(count as u32)
-}
 
 /// The place of the first volume of the path.
 pub fn place_of(world: &PlainWorld, path: &Path) -> Option<usize>
@@ -65,22 +55,12 @@ pub(crate) fn refuse_name(alloc: Global, name: &SnapName) -> Result<Reply, Plain
 }
 
 /// A block of one byte, at a number.
-
 pub(crate) fn full_block(alloc: Global, tag: u32, fill: u8) -> Result<PlainBlock, NoMemory>
     ensures { IfOk result (λ block. block ≡ full_block tag fill) }
 {
     Ok(PlainBlock {
         tag,
         bytes: vec![in alloc; fill; 4096]?,
-    })
-}
-
-pub(crate) fn hole(alloc: Global) -> Result<PlainBlock, NoMemory>
-    ensures { IfOk result (λ block. block ≡ hole) }
-{
-    Ok(PlainBlock {
-        tag: 0,
-        bytes: vec![in alloc; 0; 4096]?,
     })
 }
 

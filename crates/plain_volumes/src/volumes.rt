@@ -11,10 +11,12 @@ ghost use Rattle.sm_model.specs.OfVolumes as model;
 ghost use Rattle.plain_volumes.specs.Answering.{Answers};
 
 use crate::pieces::{
-    full_block, hole, is_writable, new_image, place_of, refuse_name, refuse_path, small, volume,
+    full_block, is_writable, new_image, place_of, refuse_name, refuse_path, volume,
 };
-use plain_machine::{PlainBlock, PlainSnapshot, copy_image, is_same, same_text};
-use plain_world::{PlainFault, PlainVolume, PlainWorld, free_tags, holder, snapshots_at, used};
+use plain_machine::{PlainBlock, PlainSnapshot, copy_image, hole, is_same, same_text};
+use plain_world::{
+    PlainFault, PlainVolume, PlainWorld, free_tags, holder, small, snapshots_at, used,
+};
 use sm_base::{Block, DiskNo, Ident, Kind, Label, NoMemory, Path, Refusal, SnapName, VolNo, What};
 use sm_model::{Reply, copy_label};
 use std::alloc::Global;

@@ -1,11 +1,11 @@
 -- Walks along the first of some relationships.
 use Rattle.std.proofs.Common.{◌≡◌, ℕ, suc, ◌<◌, ◌-◌, ◌==◌, ◌&&◌, ◌||◌, Bool, true, false, not, List, [], ◌∷◌, length, take, drop, get_or, refl, sym, ap, subst, ◌∙◌, arith, eq-eqb}
 use Rattle.std.proofs.lemmas.Bool.{and_parts, ne_eqb}
-use Rattle.std.proofs.Math.Seq.{take-length}
 use Rattle.std.specs.List.{list_any}
 use Rattle.sm_defs.specs.Relationship.{Relationship}
 use Rattle.sm_defs.specs.World.{Up}
 use Rattle.sm_defs.specs.Edges.{Edge, edge_of, leads, is_edge}
+use Rattle.plain_machine.proofs.FirstOf.{others_are}
 use Rattle.plain_world.specs.declared.values.PlainEdges.{PlainEdges}
 use Rattle.plain_world.specs.declared.values.PlainEdges.TheVariants.{All, AllBut, Mirrors}
 use Rattle.plain_world.specs.Walks.{edges_among, is_walked, any_leads}
@@ -21,9 +21,6 @@ or_false false = refl
 
 goes_on : (a b x y : Bool) → a ≡ true → b ≡ false → y ≡ false → ((a && (b || x)) || y) ≡ x
 goes_on a b x y d e f = rw (d, e, f) (or_false x)
-
-others_are : {X : Type 0} (xs : List X) → take (suc (length xs) - 1) xs ≡ xs
-others_are xs = let e : suc (length xs) - 1 ≡ length xs = omega arith in rw e (take-length xs)
 
 -- where only the first of them may begin the walk, and it goes on
 pub last_leads : (which : PlainEdges) (w : Up) (more n u v : ℕ) (rs : List Relationship) (r : Relationship) → more ≡ suc n → 0 < length rs → r ≡ get_or rs 0 r →

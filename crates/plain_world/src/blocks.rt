@@ -5,15 +5,9 @@ ghost use Rattle.sm_defs.specs.Image.{tags, stands, distinct};
 ghost use Rattle.sm_defs.specs.Volume.{image_of, tags_of, used, free, free_tags, numbers};
 
 use crate::values::PlainVolume;
-use plain_machine::{PlainBlock, PlainSnapshot};
+use plain_machine::{PlainBlock, PlainSnapshot, stands};
 use sm_base::NoMemory;
 use std::alloc::Global;
-
-fn stands(tags: &[u32], tag: u32) -> bool
-    ensures { result ≡ stands tag tags.now }
-{
-    tags.iter().any(|t| *t == tag)
-}
 
 fn with_tags(alloc: Global, image: &[PlainBlock], behind: Vec<u32>) -> Result<Vec<u32>, NoMemory>
     ensures { IfOk result (λ all. all.items ≡ tags image.now ++ behind.items) }
@@ -57,7 +51,7 @@ fn distinct(tags: &[u32]) -> usize
         [] => 0,
         [tag, others @ ..] => {
             let count = distinct(others);
-            if *tag == 0 || stands(others, *tag) {
+            if *tag == 0 || stands(others, u64::from(*tag)) {
                 count
             } else {
                 1 + count
@@ -88,9 +82,8 @@ fn free_from(alloc: Global, tags: &[u32], from: u64, count: u64) -> Result<Vec<u
         return Ok(Vec::new(alloc));
     }
     let mut all = free_from(alloc, tags, from + 1, count - 1)?;
-    let tag = from as u32;
-    if !stands(tags, tag) {
-        all.insert(0, tag)?;
+    if !stands(tags, from) {
+        all.insert(0, from as u32)?;
     }
     Ok(all)
 }

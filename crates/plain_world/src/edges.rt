@@ -21,6 +21,16 @@ pub fn is_rw(kind: Kind) -> bool
     }
 }
 
+/// Whether a policy of the kind is a mirror's.
+pub fn is_mirror(kind: PolicyKind) -> bool
+    ensures { result ≡ is_mirror kind }
+{
+    match kind {
+        PolicyKind::AsyncMirror => true,
+        PolicyKind::Vault => false,
+    }
+}
+
 fn state_of(writable: bool, empty: bool) -> MirrorState
     ensures { result ≡ state_of writable empty }
 {
@@ -87,15 +97,6 @@ pub fn is_mirror_edge(world: &PlainWorld, relation: &WorldRelation) -> bool
             is_rw(kind_at(world, destination)),
             snapshots_at(world, destination).is_empty(),
         ))
-}
-
-fn is_mirror(kind: PolicyKind) -> bool
-    ensures { result ≡ is_mirror kind }
-{
-    match kind {
-        PolicyKind::AsyncMirror => true,
-        PolicyKind::Vault => false,
-    }
 }
 
 fn is_snapmirrored(state: MirrorState) -> bool

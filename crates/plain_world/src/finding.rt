@@ -1,5 +1,5 @@
 // What stands in a world, by its name or its place.
-ghost use Rattle.std.specs.Prelude.{◌≡◌, ◌&&◌, ◌==◌, MatchOption, position};
+ghost use Rattle.std.specs.Prelude.{◌≡◌, ◌&&◌, ◌==◌, nat_lt, length, is_some, MatchOption, position};
 ghost use Rattle.std.specs.Str.{bytes_eq};
 ghost use Rattle.sm_defs.specs.Volume.{no_volume};
 ghost use Rattle.sm_defs.specs.World.{volume_at, policy_at, no_policy, no_relation};
@@ -58,7 +58,8 @@ pub fn relation_to(world: &PlainWorld, destination: usize) -> Option<usize>
 
 /// The volume at a place, or none where no volume is.
 pub fn volume_at(world: &PlainWorld, at: usize) -> Option<&PlainVolume>
-    ensures { MatchOption result (volume_at world.now at ≡ no_volume) (λ v. v.now ≡ volume_at world.now at) }
+    ensures volume { MatchOption result (volume_at world.now at ≡ no_volume) (λ v. v.now ≡ volume_at world.now at) }
+    ensures stands { is_some result ≡ nat_lt at (length world.now.volumes) }
 {
     if at < world.volumes.len() {
         Some(&world.volumes[at])

@@ -1,4 +1,6 @@
 // A world with whole images, and why a plain function gives no answer.
+ghost use Rattle.std.specs.Prelude.{◌≡◌, ◌≤◌, ◌^◌, IfOk, OnErr};
+
 use plain_machine::{PlainBlock, PlainSnapshot};
 use sm_base::{DiskNo, Kind, NoMemory, Path, RelNo};
 use sm_model::{WorldPolicy, WorldRelation};
@@ -68,24 +70,51 @@ pub enum PlainFault {
     /// There is no memory left for this call.
     NoMemory,
     /// A number of the world is greater than what a reply, a list or a name can hold, a place in it is
-    /// past the last, or a block has not 4,096 bytes. In worlds within the limits this does not come.
+    /// past the last, or a block has not 4,096 bytes. No clause says when this does not come; the tests
+    /// meet none.
     TooGreat,
 }
 
 impl From<NoMemory> for PlainFault {
+    ghost use Rattle.std.specs.Prelude.{◌≡◌};
+    ghost use Rattle.plain_world.specs.declared.values.PlainFault.TheVariants.{NoMemory as OutOfMemory};
+
+    ghost from_gives = { λ _ e. e ≡ OutOfMemory };
+
     fn from(_: NoMemory) -> PlainFault {
         PlainFault::NoMemory
     }
 }
 
 impl From<AllocError> for PlainFault {
+    ghost use Rattle.std.specs.Prelude.{◌≡◌};
+    ghost use Rattle.plain_world.specs.declared.values.PlainFault.TheVariants.{NoMemory as OutOfMemory};
+
+    ghost from_gives = { λ _ e. e ≡ OutOfMemory };
+
     fn from(_: AllocError) -> PlainFault {
         PlainFault::NoMemory
     }
 }
 
 impl<T: Drop> From<AllocFailed<T>> for PlainFault {
+    ghost use Rattle.std.specs.Prelude.{◌≡◌};
+    ghost use Rattle.plain_world.specs.declared.values.PlainFault.TheVariants.{NoMemory as OutOfMemory};
+
+    ghost from_gives = { λ _ e. e ≡ OutOfMemory };
+
     fn from(_: AllocFailed<T>) -> PlainFault {
         PlainFault::NoMemory
+    }
+}
+
+/// A count or a place as a number of a reply.
+pub fn small(count: usize) -> Result<u32, PlainFault>
+    ensures same { IfOk result (λ number. number ≡ count) }
+    ensures great { OnErr result (2 ^ 32 ≤ count) }
+{
+    match u32::try_from(count) {
+        Ok(number) => Ok(number),
+        Err(_) => Err(PlainFault::TooGreat),
     }
 }

@@ -2,7 +2,7 @@ use Rattle.std.proofs.Common.{List, subst}
 use Rattle.sm_defs.specs.Common.{common}
 use Rattle.sm_defs.specs.Volume.{Snapshot}
 use Rattle.sm_defs.specs.World.{volume_at}
-use Rattle.plain_transfers.specs.Needing.{IsOfOne}
+use Rattle.plain_transfers.specs.Targets.{IsOfOne}
 use Rattle.plain_transfers.proofs.transfers.newest_common.Goals as goal
 
 pub returns : goal.returns

@@ -1,4 +1,4 @@
-use Rattle.plain_transfers.proofs.transfers.+prefix_from.Given as goal
+use Rattle.plain_machine.proofs.numbers.+prefix_from.Given as goal
 
 abbrev pub decreases-prefix_from : goal.decreases-prefix_from
 decreases-prefix_from l = l.count

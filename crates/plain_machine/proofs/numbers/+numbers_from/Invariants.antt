@@ -1,4 +1,4 @@
-use Rattle.plain_transfers.proofs.starting.+numbers_from.Given as goal
+use Rattle.plain_machine.proofs.numbers.+numbers_from.Given as goal
 
 abbrev pub decreases-numbers_from : goal.decreases-numbers_from
 decreases-numbers_from l = l.count
