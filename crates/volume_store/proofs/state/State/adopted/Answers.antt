@@ -20,10 +20,10 @@ following-requires-clause-maps c =
     let s = snapshot_of c.args.head c.args.map.items in
     let good : IsRoot m.root = subst (λ (w : Maps). IsRoot w.root) c.self.view_is c.self.invariant.good in
     let maps : AreMapsOf m.root.logical m.root.physical (all_maps m.root m.active) = subst (λ (w : Maps). AreMapsOf w.root.logical w.root.physical (all_maps w.root w.active)) c.self.view_is c.self.invariant.maps in
-    let is : remake c.self.inside.root c.args.family c.in_ok-stable.stable c.from_vec.result ≡ (adopted m s c.args.family c.args.drops.now).root =
-    ap (λ (w : Maps). remake w.root c.args.family c.in_ok-stable.stable c.from_vec.result) c.self.view_is ∙ ap₂ (remake m.root c.args.family) c.in_ok-stable.ensures (c.from_vec.ensures ∙ c.requires.list) in
+    let is : remake c.self.inside.root c.args.family c.in_ok-stable.stable c.from_vec-2.result ≡ (adopted m s c.args.family c.args.drops.now).root =
+    ap (λ (w : Maps). remake w.root c.args.family c.in_ok-stable.stable c.from_vec-2.result) c.self.view_is ∙ ap₂ (remake m.root c.args.family) c.in_ok-stable.ensures (c.from_vec-2.ensures ∙ c.requires.list) in
     let long = c.requires.fits.long c.args.map.items (inl refl) in
-    moved_maps (remake c.self.inside.root c.args.family c.in_ok-stable.stable c.from_vec.result) (adopted m s c.args.family c.args.drops.now).root c.in_ok-active.active.items s.map is (c.in_ok-active.ensures.items ∙ c.deref.ensures.value)
+    moved_maps (remake c.self.inside.root c.args.family c.in_ok-stable.stable c.from_vec-2.result) (adopted m s c.args.family c.args.drops.now).root c.in_ok-active.active.items s.map is (c.in_ok-active.ensures.items ∙ c.deref.ensures.value)
     (maps_adopted m good maps s c.args.family c.args.drops.now (head_fits c.args.head c.told.ensures c.args.map.items m.root.logical long) c.requires.new c.ranges.family.fits (subst (λ (xs : List RootSnapshot). length xs ≤ most_snapshots) c.requires.list c.requires.room) c.requires.fits)
 
 pub following-requires-clause-good : goal.following-requires-clause-good
@@ -32,8 +32,8 @@ following-requires-clause-good c =
     let s = snapshot_of c.args.head c.args.map.items in
     let good : IsRoot m.root = subst (λ (w : Maps). IsRoot w.root) c.self.view_is c.self.invariant.good in
     let maps : AreMapsOf m.root.logical m.root.physical (all_maps m.root m.active) = subst (λ (w : Maps). AreMapsOf w.root.logical w.root.physical (all_maps w.root w.active)) c.self.view_is c.self.invariant.maps in
-    let is : remake c.self.inside.root c.args.family c.in_ok-stable.stable c.from_vec.result ≡ (adopted m s c.args.family c.args.drops.now).root =
-    ap (λ (w : Maps). remake w.root c.args.family c.in_ok-stable.stable c.from_vec.result) c.self.view_is ∙ ap₂ (remake m.root c.args.family) c.in_ok-stable.ensures (c.from_vec.ensures ∙ c.requires.list) in
+    let is : remake c.self.inside.root c.args.family c.in_ok-stable.stable c.from_vec-2.result ≡ (adopted m s c.args.family c.args.drops.now).root =
+    ap (λ (w : Maps). remake w.root c.args.family c.in_ok-stable.stable c.from_vec-2.result) c.self.view_is ∙ ap₂ (remake m.root c.args.family) c.in_ok-stable.ensures (c.from_vec-2.ensures ∙ c.requires.list) in
     let long = c.requires.fits.long c.args.map.items (inl refl) in
     subst IsRoot (sym is)
     (good_adopted m good maps s c.args.family c.args.drops.now (head_fits c.args.head c.told.ensures c.args.map.items m.root.logical long) c.requires.new c.ranges.family.fits (subst (λ (xs : List RootSnapshot). length xs ≤ most_snapshots) c.requires.list c.requires.room) c.requires.fits)
@@ -44,8 +44,8 @@ adopted_marks-requires-clause-good c =
     let s = snapshot_of c.args.head c.args.map.items in
     let good : IsRoot m.root = subst (λ (w : Maps). IsRoot w.root) c.self.view_is c.self.invariant.good in
     let maps : AreMapsOf m.root.logical m.root.physical (all_maps m.root m.active) = subst (λ (w : Maps). AreMapsOf w.root.logical w.root.physical (all_maps w.root w.active)) c.self.view_is c.self.invariant.maps in
-    let is : remake c.self.inside.root c.args.family c.in_ok-stable.stable c.from_vec.result ≡ (adopted m s c.args.family c.args.drops.now).root =
-    ap (λ (w : Maps). remake w.root c.args.family c.in_ok-stable.stable c.from_vec.result) c.self.view_is ∙ ap₂ (remake m.root c.args.family) c.in_ok-stable.ensures (c.from_vec.ensures ∙ c.requires.list) in
+    let is : remake c.self.inside.root c.args.family c.in_ok-stable.stable c.from_vec-2.result ≡ (adopted m s c.args.family c.args.drops.now).root =
+    ap (λ (w : Maps). remake w.root c.args.family c.in_ok-stable.stable c.from_vec-2.result) c.self.view_is ∙ ap₂ (remake m.root c.args.family) c.in_ok-stable.ensures (c.from_vec-2.ensures ∙ c.requires.list) in
     let long = c.requires.fits.long c.args.map.items (inl refl) in
     subst IsRoot (sym is)
     (good_adopted m good maps s c.args.family c.args.drops.now (head_fits c.args.head c.told.ensures c.args.map.items m.root.logical long) c.requires.new c.ranges.family.fits (subst (λ (xs : List RootSnapshot). length xs ≤ most_snapshots) c.requires.list c.requires.room) c.requires.fits)
@@ -56,10 +56,10 @@ adopted_marks-requires-clause-maps c =
     let s = snapshot_of c.args.head c.args.map.items in
     let good : IsRoot m.root = subst (λ (w : Maps). IsRoot w.root) c.self.view_is c.self.invariant.good in
     let maps : AreMapsOf m.root.logical m.root.physical (all_maps m.root m.active) = subst (λ (w : Maps). AreMapsOf w.root.logical w.root.physical (all_maps w.root w.active)) c.self.view_is c.self.invariant.maps in
-    let is : remake c.self.inside.root c.args.family c.in_ok-stable.stable c.from_vec.result ≡ (adopted m s c.args.family c.args.drops.now).root =
-    ap (λ (w : Maps). remake w.root c.args.family c.in_ok-stable.stable c.from_vec.result) c.self.view_is ∙ ap₂ (remake m.root c.args.family) c.in_ok-stable.ensures (c.from_vec.ensures ∙ c.requires.list) in
+    let is : remake c.self.inside.root c.args.family c.in_ok-stable.stable c.from_vec-2.result ≡ (adopted m s c.args.family c.args.drops.now).root =
+    ap (λ (w : Maps). remake w.root c.args.family c.in_ok-stable.stable c.from_vec-2.result) c.self.view_is ∙ ap₂ (remake m.root c.args.family) c.in_ok-stable.ensures (c.from_vec-2.ensures ∙ c.requires.list) in
     let long = c.requires.fits.long c.args.map.items (inl refl) in
-    maps_of_root (remake c.self.inside.root c.args.family c.in_ok-stable.stable c.from_vec.result) (subst IsRoot (sym is)
+    maps_of_root (remake c.self.inside.root c.args.family c.in_ok-stable.stable c.from_vec-2.result) (subst IsRoot (sym is)
     (good_adopted m good maps s c.args.family c.args.drops.now (head_fits c.args.head c.told.ensures c.args.map.items m.root.logical long) c.requires.new c.ranges.family.fits (subst (λ (xs : List RootSnapshot). length xs ≤ most_snapshots) c.requires.list c.requires.room) c.requires.fits))
 
 pub adopted_marks-requires-clause-behind : goal.adopted_marks-requires-clause-behind
@@ -67,12 +67,12 @@ adopted_marks-requires-clause-behind c = λ none.
     let m = c.args.self.now in
     let s = snapshot_of c.args.head c.args.map.items in (
       s,
-      c.from_vec.ensures ∙ c.requires.list ∙ ap (λ (d : List Ident). staying d (m.root.snapshots ++ s ∷ [])) none ∙ all_stay (m.root.snapshots ++ s ∷ []),
+      c.from_vec-2.ensures ∙ c.requires.list ∙ ap (λ (d : List Ident). staying d (m.root.snapshots ++ s ∷ [])) none ∙ all_stay (m.root.snapshots ++ s ∷ []),
       sym c.in_ok-stable.ensures,
     )
 
 pub following-requires-clause-marks : goal.following-requires-clause-marks
 following-requires-clause-marks c =
     let marks = c.in_ok-marks.marks in
-    subst (λ (a : List ℕ). AreMarks marks.held marks.settled marks.live (remake c.self.inside.root c.args.family c.in_ok-stable.stable c.from_vec.result) a)
+    subst (λ (a : List ℕ). AreMarks marks.held marks.settled marks.live (remake c.self.inside.root c.args.family c.in_ok-stable.stable c.from_vec-2.result) a)
     (c.in_ok-stable.ensures ∙ sym (c.in_ok-active.ensures.items ∙ c.deref.ensures.value)) c.in_ok-marks.ensures
