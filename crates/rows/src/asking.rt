@@ -1,11 +1,11 @@
 // Events, written with texts for their names.
-use sm_base::{DiskNo, Kind, Label, Path, Path1, PolicyKind, SnapName};
+use sm_base::{DiskNo, Kind, Label, Path, Path1, PolicyKind, RelNo, SnapName, VolNo};
 use sm_model::Event;
 use std::alloc::Global;
 use std::test::Fail;
 
-/// An event, with texts for its names; the last four are several events, or one of another actor than 0.
-#[derive(Clone, Copy, Debug)]
+/// An event, with texts for its names; or several, or a change of the world by hand.
+#[derive(Clone, Copy)]
 pub(crate) enum Ask {
     /// Path, disk, kind, blocks and physical blocks.
     CreateVolume(&'static str, u32, Kind, u32, u32),
@@ -39,14 +39,43 @@ pub(crate) enum Ask {
     Read(&'static str, &'static str, u32),
     Work,
     Restart,
-    /// Writes from a block on: path, first block, how many, and the fill, which grows by one.
-    Writes(&'static str, u64, u32, u8),
+    /// The report's first line.
+    Head,
+    /// The report's line on a volume.
+    VolumeLine(u32),
+    /// The report's line on a volume's active image.
+    Digest(u32),
+    /// The report's line on a snapshot: volume, and place in its list.
+    SnapshotDigest(u32, u32),
+    /// The report's line on a relationship.
+    RelationLine(u32),
     /// A step of this actor.
     WorkOf(u32),
-    /// So many steps.
+    /// So many steps; the text is that of the last one.
     Steps(u32),
-    /// Steps until none is due.
+    /// Steps until none is due; the text is "settled".
     Settle,
+    /// Writes from a block on: path, first block, how many, and the fill, which grows by one.
+    Writes(&'static str, u64, u32, u8),
+    /// So many volumes of one block: each s:v and its number, on the disk behind that number. The answer is
+    /// the text and the number.
+    Volumes(u32),
+    /// So many policies of vaults: each p and its number.
+    Policies(u32),
+    /// So many relationships by m from s:a to s:b, each without its destination half. The answer is the text
+    /// and the number of the relationship.
+    Halves(u32),
+    /// Snapshots of s:a from a number to the one before another, with a label: each s and its number. The
+    /// answer is the text and twice the number.
+    Snaps(u32, u32, &'static str),
+    /// Other disks: how many and how long. The text of a change by hand is "set".
+    Disks(usize, u64),
+    /// One more disk, of this length.
+    AddDisk(u64),
+    NextRelation(u32),
+    NextTransfer(u64),
+    /// The number of each volume's next snapshot.
+    NextSnapshot(u64),
 }
 
 fn path(alloc: Global, text: &str) -> Result<Path, Fail> {
@@ -157,7 +186,7 @@ fn event_of_read(alloc: Global, at: &str, named: &str, block: u32) -> Result<Eve
     })
 }
 
-/// The event that is asked, or the first of several.
+/// The event that is asked. What stands for several events has none, and is taken for a worker's step.
 pub(crate) fn event_of(alloc: Global, ask: Ask) -> Result<Event, Fail> {
     match ask {
         Ask::CreateVolume(at, disk, kind, logical, physical) => {
@@ -165,12 +194,23 @@ pub(crate) fn event_of(alloc: Global, ask: Ask) -> Result<Event, Fail> {
         }
         Ask::ShowVolumes => Ok(Event::ShowVolumes),
         Ask::Write(at, block, fill) => event_of_write(alloc, at, block, fill),
-        Ask::Writes(at, block, _, fill) => event_of_write(alloc, at, block, fill),
         Ask::Snap(at, named, labelled) => event_of_snapshot(alloc, at, named, labelled),
         Ask::Unsnap(at, named) => event_of_deletion(alloc, at, named),
         Ask::ShowSnaps(at) => Ok(Event::ShowSnaps {
             path: path(alloc, at)?,
         }),
+        Ask::Cp(at) => Ok(Event::Cp {
+            path: path(alloc, at)?,
+        }),
+        Ask::Read(at, named, block) => event_of_read(alloc, at, named, block),
+        Ask::Clock(time) => Ok(Event::Clock { time }),
+        _ => event_of_tables(alloc, ask),
+    }
+}
+
+/// The event on policies or on which relationships there are.
+fn event_of_tables(alloc: Global, ask: Ask) -> Result<Event, Fail> {
+    match ask {
         Ask::CreatePolicy(policy, kind) => Ok(Event::CreatePolicy {
             name: part(alloc, policy)?,
             kind,
@@ -180,6 +220,18 @@ pub(crate) fn event_of(alloc: Global, ask: Ask) -> Result<Event, Fail> {
         }
         Ask::ShowPolicies => Ok(Event::ShowPolicies),
         Ask::Relate(from, to, policy) => event_of_relation(alloc, from, to, policy),
+        Ask::Delete(to) => Ok(Event::Delete {
+            destination: path(alloc, to)?,
+        }),
+        Ask::Release(from, to) => event_of_release(alloc, from, to),
+        Ask::ShowRelations => Ok(Event::ShowRelations),
+        _ => event_of_transfer(alloc, ask),
+    }
+}
+
+/// The event on the transfers to a destination.
+fn event_of_transfer(alloc: Global, ask: Ask) -> Result<Event, Fail> {
+    match ask {
         Ask::Initialize(to) => Ok(Event::Initialize {
             destination: path(alloc, to)?,
         }),
@@ -202,20 +254,29 @@ pub(crate) fn event_of(alloc: Global, ask: Ask) -> Result<Event, Fail> {
         Ask::Resync(to) => Ok(Event::Resync {
             destination: path(alloc, to)?,
         }),
-        Ask::Delete(to) => Ok(Event::Delete {
-            destination: path(alloc, to)?,
-        }),
-        Ask::Release(from, to) => event_of_release(alloc, from, to),
-        Ask::ShowRelations => Ok(Event::ShowRelations),
-        Ask::Clock(time) => Ok(Event::Clock { time }),
-        Ask::Cp(at) => Ok(Event::Cp {
-            path: path(alloc, at)?,
-        }),
-        Ask::Read(at, named, block) => event_of_read(alloc, at, named, block),
-        Ask::Work => Ok(Event::Work { shown: true }),
-        Ask::WorkOf(_) => Ok(Event::Work { shown: true }),
-        Ask::Steps(_) => Ok(Event::Work { shown: true }),
-        Ask::Settle => Ok(Event::Work { shown: false }),
-        Ask::Restart => Ok(Event::Restart),
+        _ => Ok(event_of_node(ask)),
+    }
+}
+
+/// A line of the report, a restart, or else a worker's step.
+fn event_of_node(ask: Ask) -> Event {
+    match ask {
+        Ask::Head => Event::Head,
+        Ask::VolumeLine(volume) => Event::VolumeLine {
+            volume: VolNo(volume),
+        },
+        Ask::Digest(volume) => Event::Digest {
+            volume: VolNo(volume),
+            place: None,
+        },
+        Ask::SnapshotDigest(volume, place) => Event::Digest {
+            volume: VolNo(volume),
+            place: Some(place),
+        },
+        Ask::RelationLine(relation) => Event::RelationLine {
+            relation: RelNo(relation),
+        },
+        Ask::Restart => Event::Restart,
+        _ => Event::Work { shown: true },
     }
 }

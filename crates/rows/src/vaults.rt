@@ -1,16 +1,16 @@
-// Whole courses of vaults.
+// Vaults.
 use crate::asking::Ask::*;
-use crate::playing::{begin, go_on};
+use crate::playing::{Course, run_courses};
 use sm_base::Kind::{Dp, Rw};
 use sm_base::PolicyKind::{AsyncMirror, Vault};
 use std::test::Fail;
 
-/// A vault that is mirrored further: s:a to s:b by v, which keeps two, and s:b to s:c by m.
-#[test]
-fn a_vault_keeps_what_its_mirror_needs(rt: HostRuntime) -> Result<(), Fail> {
-    let mut world = begin(
-        &rt,
-        &[
+const COURSES: &[Course] = &[
+    Course {
+        // A vault that is mirrored further: s:a to s:b by v, which keeps two, and s:b to s:c by m.
+        name: "a vault keeps what its mirror needs",
+        start: &[],
+        steps: &[
             (CreateVolume("s:a", 1, Rw, 4, 16), "ok volume=0"),
             (CreateVolume("s:b", 2, Dp, 4, 16), "ok volume=1"),
             (CreateVolume("s:c", 3, Dp, 4, 16), "ok volume=2"),
@@ -29,12 +29,6 @@ fn a_vault_keeps_what_its_mirror_needs(rt: HostRuntime) -> Result<(), Fail> {
             (Snap("s:a", "d2", "daily"), "ok id=0.4"),
             (Update("s:b"), "ok transfer=3 legs=1"),
             (Settle, "settled"),
-        ],
-    )?;
-    go_on(
-        &rt,
-        &mut world,
-        &[
             (Write("s:a", 0, 3), "ok"),
             (Snap("s:a", "d3", "daily"), "ok id=0.6"),
             (Update("s:b"), "ok transfer=4 legs=1"),
@@ -54,14 +48,11 @@ fn a_vault_keeps_what_its_mirror_needs(rt: HostRuntime) -> Result<(), Fail> {
             (Work, "ship relationship=1 index=0 cost=1"),
             (Work, "publish relationship=1 id=0.8 dropped=2"),
         ],
-    )
-}
-
-#[test]
-fn a_rule_that_preserves_is_full(rt: HostRuntime) -> Result<(), Fail> {
-    begin(
-        &rt,
-        &[
+    },
+    Course {
+        name: "a rule that preserves is full",
+        start: &[],
+        steps: &[
             (CreateVolume("s:a", 1, Rw, 4, 16), "ok volume=0"),
             (CreateVolume("s:b", 2, Dp, 4, 16), "ok volume=1"),
             (CreatePolicy("v", Vault), "ok"),
@@ -73,15 +64,11 @@ fn a_rule_that_preserves_is_full(rt: HostRuntime) -> Result<(), Fail> {
             (Snap("s:a", "m2", "monthly"), "ok id=0.4"),
             (Update("s:b"), "refused KeepReached label=monthly"),
         ],
-    )?;
-    Ok(())
-}
-
-#[test]
-fn a_vault_without_room_is_interrupted(rt: HostRuntime) -> Result<(), Fail> {
-    begin(
-        &rt,
-        &[
+    },
+    Course {
+        name: "a vault without room is interrupted",
+        start: &[],
+        steps: &[
             (CreateVolume("s:a", 1, Rw, 2, 8), "ok volume=0"),
             (CreateVolume("s:b", 2, Dp, 2, 2), "ok volume=1"),
             (CreatePolicy("v", Vault), "ok"),
@@ -101,16 +88,12 @@ fn a_vault_without_room_is_interrupted(rt: HostRuntime) -> Result<(), Fail> {
             (Work, "idle"),
             (Update("s:b"), "ok transfer=2 resumed=0"),
         ],
-    )?;
-    Ok(())
-}
-
-/// A client's snapshot of a vault that was broken off has the name of one that the resync brings.
-#[test]
-fn a_name_means_the_newest_snapshot(rt: HostRuntime) -> Result<(), Fail> {
-    let mut world = begin(
-        &rt,
-        &[
+    },
+    Course {
+        // A client's snapshot of a vault that was broken off has the name of one that the resync brings.
+        name: "a name means the newest snapshot",
+        start: &[],
+        steps: &[
             (CreateVolume("s:a", 1, Rw, 2, 6), "ok volume=0"),
             (CreateVolume("s:b", 2, Dp, 2, 6), "ok volume=1"),
             (CreatePolicy("v", Vault), "ok"),
@@ -126,12 +109,6 @@ fn a_name_means_the_newest_snapshot(rt: HostRuntime) -> Result<(), Fail> {
             (Break("s:b"), "ok"),
             (Write("s:b", 0, 7), "ok"),
             (Snap("s:b", "d2", "d"), "ok id=1.2"),
-        ],
-    )?;
-    go_on(
-        &rt,
-        &mut world,
-        &[
             (Resync("s:b"), "ok transfer=2 common=0.2 legs=1"),
             (Work, "revert relationship=1 dropped=0"),
             (Read("s:b", "", 0), "ok fill=1"),
@@ -148,5 +125,10 @@ fn a_name_means_the_newest_snapshot(rt: HostRuntime) -> Result<(), Fail> {
             (Break("s:b"), "ok"),
             (Unsnap("s:b", "d2"), "refused Held relationship=1"),
         ],
-    )
+    },
+];
+
+#[test]
+fn courses(rt: HostRuntime) -> Result<(), Fail> {
+    run_courses(&rt, COURSES)
 }
