@@ -17,32 +17,31 @@ use plain_world::{PlainFault, PlainWorld};
 use sm_model::{Event, Reply};
 use std::alloc::Global;
 
-// The answer to an event that the world alone answers.
+// The answer to an event that only asks.
 #[tactic(auto, unfolding(sm_model::specs::Answer::answer))]
-fn answer_of(world: &mut PlainWorld, alloc: Global, event: &Event) -> Result<Reply, PlainFault>
+fn told(world: &PlainWorld, alloc: Global, event: &Event) -> Result<Reply, PlainFault>
+    ensures { IfOk result (λ reply. IsAnswer world.now (answer world.now event.now) reply world.now) }
+{
+    match event {
+        Event::ShowVolumes => show_volumes(world, alloc),
+        Event::ShowSnaps { path } => show_snapshots(world, alloc, path),
+        Event::ShowPolicies => show_policies(world, alloc),
+        Event::ShowRelations => show_relations(world, alloc),
+        Event::Read { path, name, block } => read(world, alloc, path, name, *block),
+        Event::Head => head(world),
+        Event::VolumeLine { volume } => of_volume(world, alloc, *volume),
+        Event::Digest { volume, place } => of_image(world, alloc, *volume, *place),
+        Event::RelationLine { relation } => of_relation(world, alloc, *relation),
+        _ => Err(PlainFault::TooGreat),
+    }
+}
+
+// The answer to an event on relationships, or to one that only asks.
+#[tactic(auto, unfolding(sm_model::specs::Answer::answer))]
+fn related(world: &mut PlainWorld, alloc: Global, event: &Event) -> Result<Reply, PlainFault>
     ensures { IfOk result (λ reply. IsAnswer world.old (answer world.old event.now) reply world.new) }
 {
     match event {
-        Event::CreateVolume {
-            path,
-            disk,
-            kind,
-            logical,
-            physical,
-        } => create_volume(world, alloc, path, *disk, *kind, *logical, *physical),
-        Event::ShowVolumes => show_volumes(world, alloc),
-        Event::Write { path, block, fill } => write(world, alloc, path, *block, *fill),
-        Event::Snap { path, name, label } => snap(world, alloc, path, name, label),
-        Event::Unsnap { path, name } => unsnap(world, alloc, path, name),
-        Event::ShowSnaps { path } => show_snapshots(world, alloc, path),
-        Event::CreatePolicy { name, kind } => create_policy(world, alloc, name, *kind),
-        Event::AddRule {
-            name,
-            label,
-            keep,
-            preserve,
-        } => add_rule(world, alloc, name, label, *keep, *preserve),
-        Event::ShowPolicies => show_policies(world, alloc),
         Event::Relate {
             source,
             destination,
@@ -60,23 +59,43 @@ fn answer_of(world: &mut PlainWorld, alloc: Global, event: &Event) -> Result<Rep
             source,
             destination,
         } => release(world, alloc, source, destination),
-        Event::ShowRelations => show_relations(world, alloc),
+        _ => told(world, alloc, event),
+    }
+}
+
+// The answer to an event that the world alone answers.
+#[tactic(auto, unfolding(sm_model::specs::Answer::answer))]
+fn answer_of(world: &mut PlainWorld, alloc: Global, event: &Event) -> Result<Reply, PlainFault>
+    ensures { IfOk result (λ reply. IsAnswer world.old (answer world.old event.now) reply world.new) }
+{
+    match event {
+        Event::CreateVolume {
+            path,
+            disk,
+            kind,
+            logical,
+            physical,
+        } => create_volume(world, alloc, path, *disk, *kind, *logical, *physical),
+        Event::Write { path, block, fill } => write(world, alloc, path, *block, *fill),
+        Event::Snap { path, name, label } => snap(world, alloc, path, name, label),
+        Event::Unsnap { path, name } => unsnap(world, alloc, path, name),
+        Event::CreatePolicy { name, kind } => create_policy(world, alloc, name, *kind),
+        Event::AddRule {
+            name,
+            label,
+            keep,
+            preserve,
+        } => add_rule(world, alloc, name, label, *keep, *preserve),
         Event::Clock { time } => Ok(set_clock(world, *time)),
         Event::Cp { path } => cp(world, alloc, path),
-        Event::Read { path, name, block } => read(world, alloc, path, name, *block),
-        Event::Work { .. } => Err(PlainFault::TooGreat),
-        Event::Restart => Err(PlainFault::TooGreat),
-        Event::Head => head(world),
-        Event::VolumeLine { volume } => of_volume(world, alloc, *volume),
-        Event::Digest { volume, place } => of_image(world, alloc, *volume, *place),
-        Event::RelationLine { relation } => of_relation(world, alloc, *relation),
+        _ => related(world, alloc, event),
     }
 }
 
 /// Answers an event and changes the world as that says; a worker's step and a restart have no answer.
 ///
-/// An `Err` leaves the world unspecified. `TooGreat` does not come in worlds within the limits whose places
-/// all stand, at an event that names what stands.
+/// An `Err` leaves the world unspecified. `TooGreat` comes where a number does not fit its field or a place
+/// names nothing; no clause says when it does not, and the tests meet none.
 #[tactic(auto, unfolding(sm_model::specs::Answer::answer))]
 pub fn answer(
     world: &mut PlainWorld,

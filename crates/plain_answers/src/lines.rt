@@ -1,12 +1,13 @@
 // The lines of tables and of the report.
-ghost use Rattle.std.specs.Prelude.{◌≡◌, IfOk};
+ghost use Rattle.std.specs.Prelude.{◌≡◌, ◌≤◌, length, IfOk, OnErr};
 ghost use Rattle.sm_defs.specs.World.{volume_at};
 ghost use Rattle.sm_model.specs.OfReport as model;
 
 use plain_machine::{PlainBlock, PlainSnapshot};
 use plain_transfers::policy_of;
-use plain_volumes::small;
-use plain_world::{PlainFault, PlainVolume, PlainWorld, mirror_state, status, used, volume_at};
+use plain_world::{
+    PlainFault, PlainVolume, PlainWorld, mirror_state, small, status, used, volume_at,
+};
 use sha2::{Digest, Sha256};
 use sm_base::{NoMemory, VolNo};
 use sm_model::{
@@ -128,7 +129,8 @@ pub(crate) fn policy_line(alloc: Global, policy: &WorldPolicy) -> Result<Line, N
 
 /// The volume of a number, which must stand.
 pub(crate) fn volume_of(world: &PlainWorld, number: VolNo) -> Result<&PlainVolume, PlainFault>
-    ensures { IfOk result (λ v. v.now ≡ volume_at world.now number.0) }
+    ensures named { IfOk result (λ v. v.now ≡ volume_at world.now number.0) }
+    ensures none { OnErr result (length world.now.volumes ≤ number.0) }
 {
     match volume_at(world, number.0 as usize) {
         None => Err(PlainFault::TooGreat),

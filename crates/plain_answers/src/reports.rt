@@ -11,8 +11,8 @@ use crate::lines::{
 };
 use plain_machine::PlainSnapshot;
 use plain_transfers::relation;
-use plain_volumes::{place_of, refuse_path, small};
-use plain_world::{PlainFault, PlainVolume, PlainWorld, snapshots_at};
+use plain_volumes::{place_of, refuse_path};
+use plain_world::{PlainFault, PlainVolume, PlainWorld, small, snapshots_at};
 use sm_base::{NoMemory, Path, RelNo, VolNo};
 use sm_model::{Line, Lines, Reply, WorldPolicy, WorldRelation};
 use std::alloc::Global;
