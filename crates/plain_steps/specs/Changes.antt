@@ -31,10 +31,6 @@ pub record IsChange (w : Up) (k : ℕ) (change : PlainChange) (effect : Effect) 
   pub reply : change.reply ≡ effect.reply
   pub world : changed w k change ≡ effect.world
 
--- the relationship with another transfer, or without one
-abbrev pub with_transfer_or_none : Relationship → Option Transfer → Relationship
-with_transfer_or_none r t = record r { transfer = t }
-
 -- what is left of a transfer behind its first leg
 abbrev pub transfer_behind : Transfer → List Ident → Option Transfer
 transfer_behind t [] = None

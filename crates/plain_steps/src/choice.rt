@@ -17,10 +17,10 @@ use crate::progress::{checkpoint, finish, settle, ship};
 use crate::publishing::{prepare, publish, tidy, tidy_due};
 use crate::reverting::{prune, revert};
 use crate::running::running_in;
-use crate::shipping::{cost, shippable, small};
+use crate::shipping::{cost, shippable};
 use crate::values::PlainRunning;
 use plain_machine::PlainSnapshot;
-use plain_world::{PlainFault, PlainWorld, runs};
+use plain_world::{PlainFault, PlainWorld, runs, small};
 use sm_model::WorldRelation;
 use std::alloc::Global;
 
@@ -172,7 +172,7 @@ pub fn chosen(
             })),
         },
         None => {
-            let count = small(world.volumes.len() as u64)?;
+            let count = small(world.volumes.len())?;
             match first_tidy(world, 0, count) {
                 None => Ok(None),
                 Some(volume) => Ok(Some(PlainChoice {

@@ -1,5 +1,5 @@
 // Which kind of step is due for a running transfer.
-ghost use Rattle.std.specs.Prelude.{◌≡◌, ◌&&◌, not, Some, IfOk};
+ghost use Rattle.std.specs.Prelude.{◌≡◌, ◌≤◌, ◌^◌, ◌&&◌, not, Some, IfOk, OnErr};
 ghost use Rattle.sm_defs.specs.Volume.{has};
 ghost use Rattle.sm_model.specs.Due.{is_unpruned, kind_for_leg, kind_at_source, reserved_leg, lacks_reserved, kind_for, kind_reverting, is_reverting, kind_due};
 ghost use Rattle.sm_model.specs.Steps.{snapshot_of};
@@ -60,7 +60,8 @@ fn kind_at_source(
 
 /// The identity of the snapshot that a transfer makes itself.
 pub fn reserved_leg(x: &PlainRunning) -> Result<Ident, PlainFault>
-    ensures { IfOk result (λ ident. ident ≡ reserved_leg (running_of x.now)) }
+    ensures leg { IfOk result (λ ident. ident ≡ reserved_leg (running_of x.now)) }
+    ensures great { OnErr result (2 ^ 62 ≤ (running_of x.now).transfer.number) }
 {
     let relation = x.relation;
     let transfer = x.transfer;

@@ -24,8 +24,6 @@ pub use opened::open;
 pub use progress::interrupted;
 pub use publishing::tidy_due;
 pub use running::running_in;
-pub use shipping::{
-    all_landed, at_checkpoint, bases, cost, landed_prefix, landing, shippable, small, snapshot_of,
-};
+pub use shipping::{all_landed, at_checkpoint, bases, cost, landing, shippable, snapshot_of};
 pub use stepping::step;
 pub use values::PlainRunning;

@@ -2,10 +2,9 @@
 ghost use Rattle.std.specs.Prelude.{◌≡◌, map, IfOk, OnOk, OnErr};
 ghost use Rattle.sm_model.specs.Opened.{reopened, restarted, rejoined, opened};
 
-use crate::progress::{interrupted, with_transfer};
-use crate::reverting::copy_all;
-use plain_machine::copy_image;
-use plain_world::{PlainVolume, PlainWorld};
+use crate::progress::interrupted;
+use plain_machine::{copy_image, copy_snapshots};
+use plain_world::{PlainVolume, PlainWorld, with_transfer};
 use sm_base::{NoMemory, Reason};
 use sm_model::{WorldRelation, WorldTransfer};
 use std::alloc::Global;
@@ -25,18 +24,10 @@ fn restarted(
 fn reopened(alloc: Global, volume: &PlainVolume) -> Result<PlainVolume, NoMemory>
     ensures { IfOk result (λ next. next ≡ reopened volume.now) }
 {
-    Ok(PlainVolume {
-        path: volume.path.copy(alloc)?,
-        disk: volume.disk,
-        kind: volume.kind,
-        family: volume.family,
-        logical: volume.logical,
-        physical: volume.physical,
-        next: volume.next,
-        active: copy_image(alloc, &volume.stable)?,
-        stable: copy_image(alloc, &volume.stable)?,
-        snapshots: copy_all(alloc, &volume.snapshots)?,
-    })
+    let active = copy_image(alloc, &volume.stable)?;
+    let stable = copy_image(alloc, &volume.stable)?;
+    let snapshots = copy_snapshots(alloc, &volume.snapshots)?;
+    volume.with_images(alloc, active, stable, snapshots)
 }
 
 fn all_reopened(alloc: Global, volumes: &[PlainVolume]) -> Result<Vec<PlainVolume>, NoMemory>

@@ -1,59 +1,21 @@
 // Steps that change a relationship alone.
-ghost use Rattle.std.specs.Prelude.{◌≡◌, ℕ, ◌<◌, ◌+◌, ◌^◌, IfOk};
+ghost use Rattle.std.specs.Prelude.{◌≡◌, ℕ, IfOk};
 ghost use Rattle.sm_defs.specs.World.{Up};
-ghost use Rattle.sm_defs.specs.Volume.{numbers};
 ghost use Rattle.sm_model.specs.Steps.{interrupted, interrupts};
 ghost use Rattle.sm_model.specs.Due.{finish_effect, settled_relation, settle_effect, checkpoint_effect, insert_landed, ship_reason, ship_effect};
-ghost use Rattle.plain_steps.specs.Changes.{IsChange, with_transfer_or_none, transfer_behind};
+ghost use Rattle.plain_steps.specs.Changes.{IsChange, transfer_behind};
 ghost use Rattle.plain_steps.specs.Seen.{running_of};
 
 use crate::change::PlainChange;
-use crate::shipping::{cost, landed_prefix, small};
+use crate::shipping::cost;
 use crate::values::PlainRunning;
-use plain_machine::PlainSnapshot;
-use plain_world::{PlainFault, free};
+use plain_machine::{PlainSnapshot, landed_prefix};
+use plain_world::{
+    PlainFault, back_at, copy_transfer, free, small, with_base, with_legs, with_transfer,
+};
 use sm_base::{Ident, NoMemory, PolicyKind, Reason};
 use sm_model::{Reply, WorldRelation, WorldTransfer};
 use std::alloc::Global;
-
-/// The relationship with this transfer, or without one.
-pub(crate) fn with_transfer(
-    relation: &WorldRelation,
-    transfer: Option<WorldTransfer>,
-) -> WorldRelation
-    ensures { result ≡ with_transfer_or_none relation.now transfer }
-{
-    WorldRelation {
-        number: relation.number,
-        source: relation.source,
-        destination: relation.destination,
-        policy: relation.policy,
-        source_half: relation.source_half,
-        destination_half: relation.destination_half,
-        quiesced: relation.quiesced,
-        base: relation.base,
-        transfer,
-    }
-}
-
-fn numbers_from(alloc: Global, from: u64, count: u64) -> Result<Vec<u32>, NoMemory>
-    requires { from + count < 2 ^ 32 }
-    ensures { IfOk result (λ all. all.items ≡ numbers from count) }
-{
-    if count == 0 {
-        return Ok(Vec::new(alloc));
-    }
-    let mut all = numbers_from(alloc, from + 1, count - 1)?;
-    all.insert(0, from as u32)?;
-    Ok(all)
-}
-
-/// The numbers below a number.
-pub(crate) fn numbers_below(alloc: Global, count: u32) -> Result<Vec<u32>, NoMemory>
-    ensures { IfOk result (λ all. all.items ≡ numbers 0 count) }
-{
-    numbers_from(alloc, 0, u64::from(count))
-}
 
 /// The transfer, stopped for a reason: what landed past its checkpoint is forgotten.
 pub fn interrupted(
@@ -63,17 +25,7 @@ pub fn interrupted(
 ) -> Result<WorldTransfer, NoMemory>
     ensures { IfOk result (λ stopped. stopped ≡ interrupted reason transfer.now) }
 {
-    let checkpoint = transfer.checkpoint;
-    Ok(WorldTransfer {
-        number: transfer.number,
-        kind: transfer.kind,
-        reserved: transfer.reserved,
-        checkpoint,
-        legs: Vec::from_slice(alloc, &transfer.legs)?,
-        stopped: Some(reason),
-        landed: numbers_below(alloc, checkpoint)?,
-        pruned: false,
-    })
+    back_at(alloc, transfer, transfer.checkpoint, Some(reason))
 }
 
 /// A step that cannot go on.
@@ -121,16 +73,7 @@ fn transfer_behind(
 {
     match later {
         [] => Ok(None),
-        [_, ..] => Ok(Some(WorldTransfer {
-            number: transfer.number,
-            kind: transfer.kind,
-            reserved: transfer.reserved,
-            checkpoint: 0,
-            legs: Vec::from_slice(alloc, later)?,
-            stopped: transfer.stopped,
-            landed: Vec::new(alloc),
-            pruned: transfer.pruned,
-        })),
+        [_, ..] => Ok(Some(with_legs(alloc, transfer, later)?)),
     }
 }
 
@@ -142,18 +85,8 @@ fn settled_relation(
 ) -> Result<WorldRelation, NoMemory>
     ensures { IfOk result (λ relation. relation ≡ settled_relation (running_of x.now) ident later.now) }
 {
-    let relation = x.relation;
-    Ok(WorldRelation {
-        number: relation.number,
-        source: relation.source,
-        destination: relation.destination,
-        policy: relation.policy,
-        source_half: relation.source_half,
-        destination_half: relation.destination_half,
-        quiesced: relation.quiesced,
-        base: Some(ident),
-        transfer: transfer_behind(alloc, x.transfer, later)?,
-    })
+    let transfer = transfer_behind(alloc, x.transfer, later)?;
+    Ok(with_base(x.relation, Some(ident), transfer))
 }
 
 /// Settle: a published leg becomes the base.
@@ -185,14 +118,8 @@ pub(crate) fn checkpoint(alloc: Global, x: &PlainRunning) -> Result<PlainChange,
     let transfer = x.transfer;
     let prefix = small(landed_prefix(&transfer.landed))?;
     let checked = WorldTransfer {
-        number: transfer.number,
-        kind: transfer.kind,
-        reserved: transfer.reserved,
         checkpoint: prefix,
-        legs: Vec::from_slice(alloc, &transfer.legs)?,
-        stopped: transfer.stopped,
-        landed: Vec::from_slice(alloc, &transfer.landed)?,
-        pruned: transfer.pruned,
+        ..copy_transfer(alloc, transfer)?
     };
     Ok(PlainChange {
         reply: Reply::Checked {
@@ -228,7 +155,7 @@ fn ship_reason(alloc: Global, x: &PlainRunning, need: u32) -> Result<Option<Reas
 {
     let policy = x.policy;
     let transfer = x.transfer;
-    let free = small(free(alloc, x.destination)? as u64)?;
+    let free = small(free(alloc, x.destination)?)?;
     match policy.kind {
         PolicyKind::AsyncMirror => Ok(None),
         PolicyKind::Vault => {
@@ -249,14 +176,8 @@ fn with_landed(
     ensures { IfOk result (λ next. next ≡ record transfer.now { landed = insert_landed index transfer.now.landed }) }
 {
     Ok(WorldTransfer {
-        number: transfer.number,
-        kind: transfer.kind,
-        reserved: transfer.reserved,
-        checkpoint: transfer.checkpoint,
-        legs: Vec::from_slice(alloc, &transfer.legs)?,
-        stopped: transfer.stopped,
         landed: insert_landed(alloc, index, &transfer.landed)?,
-        pruned: transfer.pruned,
+        ..copy_transfer(alloc, transfer)?
     })
 }
 

@@ -12,12 +12,10 @@ ghost use Rattle.plain_steps.specs.Seen.{running_of};
 
 use crate::change::{PlainChange, PlainPlaced};
 use crate::progress::interrupt;
-use crate::reverting::{
-    copy_all, dropped, family_of_transfer, has_other_family, with_first, with_snapshots,
-};
+use crate::reverting::{dropped, family_of_transfer, has_other_family};
 use crate::shipping::landing;
 use crate::values::PlainRunning;
-use plain_machine::{PlainSnapshot, copy_image, has_copy, retained};
+use plain_machine::{PlainSnapshot, copy_image, copy_snapshots, has_copy, retained, with_first};
 use plain_world::{PlainFault, PlainVolume, PlainWorld, is_needed, is_rw};
 use sm_base::{Ident, NameFault, NoMemory, PolicyKind, Reason, SnapName, VolNo};
 use sm_model::{Reply, WorldRule, copy_label};
@@ -71,20 +69,11 @@ fn with_snapshot(
 ) -> Result<PlainVolume, NoMemory>
     ensures { IfOk result (λ next. next ≡ with_snapshot volume.now snapshot) }
 {
-    let mut snapshots = copy_all(alloc, &volume.snapshots)?;
+    let active = copy_image(alloc, &volume.active)?;
+    let stable = copy_image(alloc, &volume.active)?;
+    let mut snapshots = copy_snapshots(alloc, &volume.snapshots)?;
     snapshots.push(snapshot)?;
-    Ok(PlainVolume {
-        path: volume.path.copy(alloc)?,
-        disk: volume.disk,
-        kind: volume.kind,
-        family: volume.family,
-        logical: volume.logical,
-        physical: volume.physical,
-        next: volume.next,
-        active: copy_image(alloc, &volume.active)?,
-        stable: copy_image(alloc, &volume.active)?,
-        snapshots,
-    })
+    volume.with_images(alloc, active, stable, snapshots)
 }
 
 /// The source with the transfer's own snapshot.
@@ -240,7 +229,7 @@ fn list_published(
     let policy = x.policy;
     let relation = x.relation;
     let destination = x.destination;
-    let mut all = copy_all(alloc, &destination.snapshots)?;
+    let mut all = copy_snapshots(alloc, &destination.snapshots)?;
     all.push(leg)?;
     match policy.kind {
         PolicyKind::AsyncMirror => Ok(all),
@@ -262,17 +251,12 @@ fn published(
 {
     let destination = x.destination;
     let there = arrived(alloc, x, leg)?;
+    let active = landing(alloc, x, leg)?;
+    let stable = landing(alloc, x, leg)?;
+    let snapshots = list_published(alloc, world, x, there)?;
     Ok(PlainVolume {
-        path: destination.path.copy(alloc)?,
-        disk: destination.disk,
-        kind: destination.kind,
         family: family_published(world, x, leg.ident)?,
-        logical: destination.logical,
-        physical: destination.physical,
-        next: destination.next,
-        active: landing(alloc, x, leg)?,
-        stable: landing(alloc, x, leg)?,
-        snapshots: list_published(alloc, world, x, there)?,
+        ..destination.with_images(alloc, active, stable, snapshots)?
     })
 }
 
@@ -397,7 +381,7 @@ pub(crate) fn tidy(
         },
         volume: Some(PlainPlaced {
             at: volume,
-            volume: with_snapshots(alloc, there, stay)?,
+            volume: there.with_snapshots(alloc, stay)?,
         }),
         relation: None,
     })

@@ -1,22 +1,24 @@
 // The steps that let a destination's snapshots go before anything is shipped.
-ghost use Rattle.std.specs.Prelude.{◌≡◌, ◌-◌, ◌∷◌, ℕ, not, true, IfOk};
+ghost use Rattle.std.specs.Prelude.{◌≡◌, ◌-◌, ℕ, not, true, IfOk};
 ghost use Rattle.std.specs.List.{filter};
-ghost use Rattle.sm_defs.specs.Words.{same_ident, up_to};
-ghost use Rattle.sm_defs.specs.Relationship.{sends_all};
-ghost use Rattle.sm_defs.specs.Volume.{has, without};
+ghost use Rattle.sm_defs.specs.Volume.{without};
 ghost use Rattle.sm_defs.specs.Needed.{holder};
-ghost use Rattle.sm_model.specs.OfTransfers.{past, as_reverted};
+ghost use Rattle.sm_model.specs.OfTransfers.{as_reverted};
 ghost use Rattle.sm_model.specs.Steps.{reverted, family_of_transfer};
 ghost use Rattle.sm_model.specs.Due.{goes, has_other_family, revert_reason, revert_effect, prune_reason, prune_effect};
 ghost use Rattle.plain_steps.specs.Changes.{IsChange, reason_of_held, family_reverted};
 ghost use Rattle.plain_steps.specs.Seen.{running_of};
 
 use crate::change::{PlainChange, PlainPlaced};
-use crate::progress::{interrupt, with_transfer};
-use crate::shipping::small;
+use crate::progress::interrupt;
 use crate::values::PlainRunning;
-use plain_machine::{PlainSnapshot, copy_image, has_copy, has_rule_for, is_same};
-use plain_world::{PlainFault, PlainVolume, PlainWorld, holder, is_needed};
+use plain_machine::{
+    PlainSnapshot, behind, copy_image, copy_snapshots, has_copy, sends_all, up_to, with_first,
+    without_copies,
+};
+use plain_world::{
+    PlainFault, PlainVolume, PlainWorld, copy_transfer, holder, is_needed, small, with_transfer,
+};
 use sm_base::{Ident, Kind, NoMemory, PolicyKind, Reason};
 use sm_model::{Reply, WorldPolicy, WorldTransfer};
 use std::alloc::Global;
@@ -37,66 +39,6 @@ fn held(world: &PlainWorld, volume: u32, snapshots: &[PlainSnapshot]) -> Option<
     }
 }
 
-fn past(snapshots: &[PlainSnapshot], ident: Ident) -> &[PlainSnapshot]
-    ensures { result.now ≡ past ident snapshots.now }
-{
-    match snapshots {
-        [] => snapshots,
-        [snapshot, newer @ ..] => {
-            if is_same(snapshot.ident, ident) {
-                newer
-            } else {
-                past(newer, ident)
-            }
-        }
-    }
-}
-
-pub(crate) fn with_first(
-    first: PlainSnapshot,
-    mut others: Vec<PlainSnapshot>,
-) -> Result<Vec<PlainSnapshot>, NoMemory>
-    ensures { IfOk result (λ all. all.items ≡ first ∷ others.items) }
-{
-    others.insert(0, first)?;
-    Ok(others)
-}
-
-pub(crate) fn copy_all(
-    alloc: Global,
-    snapshots: &[PlainSnapshot],
-) -> Result<Vec<PlainSnapshot>, NoMemory>
-    ensures { IfOk result (λ all. all.items ≡ snapshots.now) }
-{
-    match snapshots {
-        [] => Ok(Vec::new(alloc)),
-        [snapshot, newer @ ..] => {
-            let all = copy_all(alloc, newer)?;
-            with_first(snapshot.copy(alloc)?, all)
-        }
-    }
-}
-
-fn up_to(
-    alloc: Global,
-    snapshots: &[PlainSnapshot],
-    ident: Ident,
-) -> Result<Vec<PlainSnapshot>, NoMemory>
-    ensures { IfOk result (λ all. all.items ≡ up_to (λ s. same_ident s.ident ident) snapshots.now) }
-{
-    match snapshots {
-        [] => Ok(Vec::new(alloc)),
-        [snapshot, newer @ ..] => {
-            let first = snapshot.copy(alloc)?;
-            if is_same(snapshot.ident, ident) {
-                with_first(first, Vec::new(alloc))
-            } else {
-                with_first(first, up_to(alloc, newer, ident)?)
-            }
-        }
-    }
-}
-
 fn as_reverted(
     alloc: Global,
     policy: &WorldPolicy,
@@ -107,7 +49,7 @@ fn as_reverted(
 {
     match policy.kind {
         PolicyKind::AsyncMirror => up_to(alloc, snapshots, ident),
-        PolicyKind::Vault => copy_all(alloc, snapshots),
+        PolicyKind::Vault => copy_snapshots(alloc, snapshots),
     }
 }
 
@@ -142,17 +84,13 @@ fn reverted(
     ensures { IfOk result (λ volume. volume ≡ reverted (running_of x.now) base.now) }
 {
     let destination = x.destination;
+    let active = copy_image(alloc, &base.image)?;
+    let stable = copy_image(alloc, &base.image)?;
+    let snapshots = as_reverted(alloc, x.policy, base.ident, &destination.snapshots)?;
     Ok(PlainVolume {
-        path: destination.path.copy(alloc)?,
-        disk: destination.disk,
         kind: Kind::Dp,
         family: family_reverted(x)?,
-        logical: destination.logical,
-        physical: destination.physical,
-        next: destination.next,
-        active: copy_image(alloc, &base.image)?,
-        stable: copy_image(alloc, &base.image)?,
-        snapshots: as_reverted(alloc, x.policy, base.ident, &destination.snapshots)?,
+        ..destination.with_images(alloc, active, stable, snapshots)?
     })
 }
 
@@ -166,7 +104,7 @@ fn revert_reason(world: &PlainWorld, x: &PlainRunning, base: Ident) -> Option<Re
         PolicyKind::AsyncMirror => held(
             world,
             relation.destination.0,
-            past(&destination.snapshots, base),
+            behind(&destination.snapshots, base),
         ),
         PolicyKind::Vault => None,
     }
@@ -176,7 +114,7 @@ fn revert_reason(world: &PlainWorld, x: &PlainRunning, base: Ident) -> Option<Re
 pub(crate) fn dropped(old: usize, new: usize) -> Result<u32, PlainFault>
     ensures { IfOk result (λ count. count ≡ old - new) }
 {
-    small(old.saturating_sub(new) as u64)
+    small(old.saturating_sub(new))
 }
 
 /// Revert: the destination goes back to its base.
@@ -209,12 +147,6 @@ pub(crate) fn revert(
             })
         }
     }
-}
-
-fn sends_all(policy: &WorldPolicy) -> bool
-    ensures { result ≡ sends_all policy.now }
-{
-    has_rule_for(&policy.rules, b"all_source_snapshots")
 }
 
 fn goes(world: &PlainWorld, x: &PlainRunning, snapshot: &PlainSnapshot) -> bool
@@ -254,54 +186,6 @@ fn unpruned_of(
     }
 }
 
-/// The same volume with other snapshots.
-pub(crate) fn with_snapshots(
-    alloc: Global,
-    volume: &PlainVolume,
-    snapshots: Vec<PlainSnapshot>,
-) -> Result<PlainVolume, NoMemory>
-    ensures { IfOk result (λ same. same ≡ record volume.now { snapshots = snapshots.items }) }
-{
-    Ok(PlainVolume {
-        path: volume.path.copy(alloc)?,
-        disk: volume.disk,
-        kind: volume.kind,
-        family: volume.family,
-        logical: volume.logical,
-        physical: volume.physical,
-        next: volume.next,
-        active: copy_image(alloc, &volume.active)?,
-        stable: copy_image(alloc, &volume.stable)?,
-        snapshots,
-    })
-}
-
-fn is_lost(source: &[PlainSnapshot], ident: Ident) -> bool
-    ensures { result ≡ not (has source.now ident) }
-{
-    !has_copy(source, ident)
-}
-
-fn lost(
-    alloc: Global,
-    source: &[PlainSnapshot],
-    destination: &[PlainSnapshot],
-) -> Result<Vec<PlainSnapshot>, NoMemory>
-    ensures { IfOk result (λ all. all.items ≡ filter (λ s. not (has source.now s.ident)) destination.now) }
-{
-    match destination {
-        [] => Ok(Vec::new(alloc)),
-        [snapshot, newer @ ..] => {
-            let all = lost(alloc, source, newer)?;
-            if is_lost(source, snapshot.ident) {
-                with_first(snapshot.copy(alloc)?, all)
-            } else {
-                Ok(all)
-            }
-        }
-    }
-}
-
 /// Whether a mirror's destination has block numbers of another family than its source.
 pub(crate) fn has_other_family(x: &PlainRunning) -> bool
     ensures { result ≡ has_other_family (running_of x.now) }
@@ -327,7 +211,7 @@ fn prune_reason(
     let relation = x.relation;
     let source = x.source;
     let destination = x.destination;
-    let lost = lost(alloc, &source.snapshots, &destination.snapshots)?;
+    let lost = without_copies(alloc, &destination.snapshots, &source.snapshots)?;
     match held(world, relation.destination.0, &lost) {
         Some(reason) => Ok(Some(reason)),
         None => {
@@ -346,21 +230,15 @@ fn pruned(alloc: Global, world: &PlainWorld, x: &PlainRunning) -> Result<PlainVo
 {
     let destination = x.destination;
     let stay = unpruned_of(alloc, world, x, &destination.snapshots)?;
-    with_snapshots(alloc, destination, stay)
+    destination.with_snapshots(alloc, stay)
 }
 
 fn with_pruned(alloc: Global, transfer: &WorldTransfer) -> Result<WorldTransfer, NoMemory>
     ensures { IfOk result (λ next. next ≡ record transfer.now { pruned = true }) }
 {
     Ok(WorldTransfer {
-        number: transfer.number,
-        kind: transfer.kind,
-        reserved: transfer.reserved,
-        checkpoint: transfer.checkpoint,
-        legs: Vec::from_slice(alloc, &transfer.legs)?,
-        stopped: transfer.stopped,
-        landed: Vec::from_slice(alloc, &transfer.landed)?,
         pruned: true,
+        ..copy_transfer(alloc, transfer)?
     })
 }
 

@@ -1,19 +1,18 @@
 // What of a leg is to be shipped, and what it becomes.
-ghost use Rattle.std.specs.Prelude.{◌≡◌, ◌<◌, ◌≤◌, ◌+◌, ◌^◌, length, IfOk, MatchOption, None, Some};
+ghost use Rattle.std.specs.Prelude.{◌≡◌, ◌<◌, ◌+◌, ◌^◌, IfOk, MatchOption, None, Some};
 ghost use Rattle.std.specs.List.{filter, list_all};
 ghost use Rattle.sm_defs.specs.Image.{stands};
 ghost use Rattle.sm_defs.specs.Volume.{numbers};
-ghost use Rattle.sm_model.specs.OfTransfers.{prefix_from, landed_prefix};
 ghost use Rattle.sm_model.specs.Steps.{snapshot_of, image_or_none, bases, cost, landing, may_ship, all_landed, at_checkpoint};
 ghost use Rattle.sm_model.specs.Choice.{shippable};
 ghost use Rattle.plain_steps.specs.Seen.{running_of};
 
 use crate::values::PlainRunning;
 use plain_machine::{
-    PlainBases, PlainBlock, PlainSnapshot, copy_image, is_same, mirror_cost, vault_cost,
-    vault_landing,
+    PlainBases, PlainBlock, PlainSnapshot, copy_image, is_same, landed_prefix, mirror_cost, stands,
+    vault_cost, vault_landing,
 };
-use plain_world::{PlainFault, free_tags};
+use plain_world::{PlainFault, free_tags, small};
 use sm_base::{Ident, NoMemory, PolicyKind};
 use std::alloc::Global;
 
@@ -83,21 +82,11 @@ fn length_of_cost(alloc: Global, x: &PlainRunning, leg: &PlainSnapshot) -> Resul
     }
 }
 
-/// A number where it fits 32 bits.
-pub fn small(number: u64) -> Result<u32, PlainFault>
-    ensures { IfOk result (λ same. same ≡ number) }
-{
-    match u32::try_from(number) {
-        Ok(same) => Ok(same),
-        Err(_) => Err(PlainFault::TooGreat),
-    }
-}
-
 /// How many blocks of a leg are to be shipped.
 pub fn cost(alloc: Global, x: &PlainRunning, leg: &PlainSnapshot) -> Result<u32, PlainFault>
     ensures { IfOk result (λ count. count ≡ cost (running_of x.now) leg.now) }
 {
-    small(length_of_cost(alloc, x, leg)? as u64)
+    small(length_of_cost(alloc, x, leg)?)
 }
 
 /// What a leg becomes at the destination.
@@ -119,17 +108,11 @@ pub fn landing(
     }
 }
 
-fn stands(number: u64, numbers: &[u32]) -> bool
-    ensures { result ≡ stands number numbers.now }
-{
-    numbers.iter().any(|n| u64::from(*n) == number)
-}
-
 fn may_ship(x: &PlainRunning, cost: u32, index: u64) -> bool
     ensures { result ≡ may_ship (running_of x.now) cost index }
 {
     let transfer = x.transfer;
-    !stands(index, &transfer.landed)
+    !stands(&transfer.landed, index)
         && index < u64::from(cost)
         && index < u64::from(transfer.checkpoint) + 64
 }
@@ -169,7 +152,7 @@ fn all_stand(landed: &[u32], from: u64, count: u64) -> bool
     if count == 0 {
         return true;
     }
-    stands(from, landed) && all_stand(landed, from + 1, count - 1)
+    stands(landed, from) && all_stand(landed, from + 1, count - 1)
 }
 
 /// Whether all of so many indexes have landed.
@@ -180,33 +163,11 @@ pub fn all_landed(x: &PlainRunning, cost: u32) -> bool
     all_stand(&transfer.landed, 0, u64::from(cost))
 }
 
-fn prefix_from(landed: &[u32], count: u64, from: u64) -> u64
-    requires { from + count < 2 ^ 64 }
-    ensures prefix { result ≡ prefix_from count from landed.now }
-    ensures within { result ≤ from + count }
-{
-    if count == 0 {
-        return from;
-    }
-    if stands(from, landed) {
-        prefix_from(landed, count - 1, from + 1)
-    } else {
-        from
-    }
-}
-
-/// How many indexes landed before the first that did not.
-pub fn landed_prefix(landed: &[u32]) -> u64
-    ensures { result ≡ landed_prefix landed.now }
-{
-    prefix_from(landed, landed.len() as u64, 0)
-}
-
 /// Whether all that may be shipped has landed, and there is more.
 pub fn at_checkpoint(x: &PlainRunning, cost: u32) -> bool
     ensures { result ≡ at_checkpoint (running_of x.now) cost }
 {
     let transfer = x.transfer;
-    let prefix = landed_prefix(&transfer.landed);
+    let prefix = landed_prefix(&transfer.landed) as u64;
     prefix == u64::from(transfer.checkpoint) + 64 && prefix < u64::from(cost)
 }
