@@ -1,6 +1,5 @@
 -- Where no relationship and no policy stands, volumes alone make a world sound.
 use Rattle.std.proofs.Common.{◌≡◌, List, [], sym, subst}
-use Rattle.sm_base.specs.declared.numbers.Kind.TheVariants.{Dp}
 use Rattle.sm_defs.specs.Words.{Among, KeysDiffer}
 use Rattle.sm_defs.specs.Volume.{Volume}
 use Rattle.sm_defs.specs.Relationship.{Relationship}
@@ -13,7 +12,7 @@ use Rattle.sm_model.specs.TagsFit.{TagsFit}
 use Rattle.sm_model.specs.CopiesAgree.{CopiesAgree}
 use Rattle.sm_model.specs.FamiliesAgree.{FamiliesAgree}
 use Rattle.sm_model.specs.Crossed.{destination_of, with_destination_half, transfer_number}
-use Rattle.sm_model.specs.DestinationsStand.{StandsAtSnapshot}
+use Rattle.sm_model.specs.DestinationsStand.{DestinationsStand}
 use Rattle.sm_model.specs.NumbersStand.{NumbersStand}
 use Rattle.sm_model.specs.FamiliesStand.{IsFamily}
 use Rattle.sm_model.specs.Sound.{SoundUp}
@@ -25,7 +24,7 @@ pub record VolumesSound (w : Up) : Type 0 where
   pub tags_fit : TagsFit w
   pub copies_agree : CopiesAgree w
   pub families_agree : FamiliesAgree w
-  pub destinations : EachVolume (λ v. v.kind ≡ Dp → StandsAtSnapshot v) w
+  pub destinations_stand : DestinationsStand w
   pub numbers_stand : NumbersStand w
   pub families : EachVolume (λ v. IsFamily w v.family) w
 
@@ -44,7 +43,7 @@ sound_if_bare w b s = record {
     destinations_differ = subst (λ (rs : List Relationship). KeysDiffer destination_of (with_destination_half rs)) (sym b.relations) tt;
     transfers_differ = subst (λ (rs : List Relationship). KeysDiffer (λ (n : ℕ). n) (filter_map transfer_number rs)) (sym b.relations) tt;
   };
-  destinations_stand = record { volumes = s.destinations; bases = λ r m. absurd (none_among w.relations r b.relations m) };
+  destinations_stand = s.destinations_stand;
   legs_fit = λ r t m. absurd (none_among w.relations r b.relations m);
   numbers_stand = s.numbers_stand;
   families_stand = record { given = s.families; transfers = λ r t m. absurd (none_among w.relations r b.relations m) };

@@ -6,7 +6,6 @@ use Rattle.sm_model.specs.Answer.{answer}
 use Rattle.sm_model.specs.InRange.{IsGiven}
 use Rattle.sm_model.specs.World.{Deed}
 use Rattle.sm_model.specs.LegalRun.{IsDeed}
-use Rattle.sm_model.specs.Formed.{Formed}
 use Rattle.sm_model.specs.Sound.{SoundUp}
 use Rattle.step_laws.proofs.Walk.{past, with_found, with_ok, now}
 use Rattle.step_laws.proofs.OfAnswer.{OfAnswer, of_answer}
@@ -16,8 +15,8 @@ use Rattle.step_laws.proofs.TagsStay as tags
 use Rattle.step_laws.proofs.CopiesStay.{deeds_keep_copies}
 use Rattle.step_laws.proofs.NumbersStay.{deeds_keep_numbers}
 use Rattle.step_laws.proofs.FamiliesStay.{answered_agree, deeds_keep_given}
-use Rattle.step_laws.proofs.DestinationsStay as destinations
-use Rattle.step_laws.proofs.FormedEvents as formed
+use Rattle.step_laws.proofs.DestinationsStay.{deeds_keep_destinations}
+use Rattle.step_laws.proofs.FormedSteps.{deeds_keep_form}
 use Rattle.sm_laws.specs.Early.{IsEarly, creates, writes, snaps, reads, heads, lists, digests, IsBare}
 use Rattle.sm_laws.proofs.Entries.{deed_done}
 use Rattle.sm_laws.proofs.Bare.{sound_if_bare}
@@ -42,11 +41,11 @@ early_keeps e d y g i s b =
     let l = done_gives (Leaves d.old) (answer d.old e) d (leaves d.old y) done in
     let bare : IsBare d.new = record { relations = l.0 ∙ b.relations; policies = l.1 ∙ b.policies } in (
       sound_if_bare d.new bare (record {
-        formed = done_gives Formed (answer d.old e) d (formed.of_answer d.old e s g) done;
+        formed = deeds_keep_form e d s g i;
         tags_fit = tags.of_deed e d s i;
         copies_agree = deeds_keep_copies e d s i;
         families_agree = answered_agree d.old d.new e a.tells s a.is;
-        destinations = destinations.of_answer d.old d.new e a.tells s.destinations_stand.volumes a.is;
+        destinations_stand = deeds_keep_destinations e d s i;
         numbers_stand = deeds_keep_numbers e d s g i;
         families = deeds_keep_given e d s i;
       }),

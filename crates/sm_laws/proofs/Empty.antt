@@ -32,7 +32,7 @@ empty_sound disks = sound_if_bare (empty_world disks) (empty_bare disks) (record
   tags_fit = λ v m. absurd m;
   copies_agree = λ v u s t a. absurd a.0;
   families_agree = λ v u s t a. absurd a.0;
-  destinations = λ v m. absurd m;
+  destinations_stand = record { volumes = λ v m. absurd m; bases = λ r m. absurd m };
   numbers_stand = record { snapshots = λ v s a. absurd a.0; unmade = λ r t m. absurd m };
   families = λ v m. absurd m;
 })

@@ -67,7 +67,7 @@ keeps_all w v i h = h
 at_x : (w : Up) (k : ℕ) (x : Running) → IsRunning w k x → volume_at w x.relation.destination ≡ x.destination
 at_x w k x r = sym (ap (λ y. y.destination) r.is)
 
-base_is : (o : Option Ident) (ss : List Snapshot) (base : Snapshot) → snapshot_of ss o ≡ Some base → o ≡ Some base.ident
+pub base_is : (o : Option Ident) (ss : List Snapshot) (base : Snapshot) → snapshot_of ss o ≡ Some base → o ≡ Some base.ident
 base_is None ss base e = absurd (cc)
 base_is (Some i) ss base e = ap Some (sym (snapshot_is ss i base e).1)
 
@@ -97,7 +97,7 @@ destination_exact w k x u P s r f g v i = (to, from)
     from : NamedAt w x.relation.number v (P i) → Lost w (with_volume w x.relation.destination u) v i
     from m = let (e, p) = named_at w k x v (P i) s r m in let (h, n) = g i p in lost_here w x.relation.destination u v i e (subst (λ y. has y.snapshots i ≡ true) (sym (at_x w k x r)) h) n
 
-differ_there : (w : Up) (k : ℕ) (x : Running) → SoundUp w → IsRunning w k x → KeysDiffer ident_of x.destination.snapshots
+pub differ_there : (w : Up) (k : ℕ) (x : Running) → SoundUp w → IsRunning w k x → KeysDiffer ident_of x.destination.snapshots
 differ_there w k x s r = (s.tags_fit x.destination (destination_stands w k x r s.crossed)).idents_differ
 
 -- ---- Publish
@@ -131,7 +131,7 @@ publish_loses w x leg i f kept (m, s, g, h, n) =
     go lost same t e (inr (inl a)) = absurd (true≢false (sym (subst (λ j. has (list_published w x (arrived x leg)) j ≡ true) (sym (ap (λ y. y.ident) same) ∙ (sym (ap (λ y. y.ident) a) ∙ e)) (kept m)) ∙ lost))
     go lost same t e (inr (inr a)) = absurd a
 
-vault_keeps_leg : (w : Up) (k : ℕ) (x : Running) (leg : Snapshot) (m : Bool) → SoundUp w → IsRunning w k x → Ahead x leg → is_mirror x.policy.kind ≡ false → m ≡ false →
+pub vault_keeps_leg : (w : Up) (k : ℕ) (x : Running) (leg : Snapshot) (m : Bool) → SoundUp w → IsRunning w k x → Ahead x leg → is_mirror x.policy.kind ≡ false → m ≡ false →
     has (cond m (x.destination.snapshots ++ arrived x leg ∷ []) (retained x.policy.rules (needed w x.relation.destination) (x.destination.snapshots ++ arrived x leg ∷ []))) leg.ident ≡ true
 vault_keeps_leg w k x leg true s r a e f = absurd (cc)
 vault_keeps_leg w k x leg false s r a e f = last_kept x.policy.rules (needed w x.relation.destination) x.destination.snapshots (arrived x leg) (leg_kept w k x leg s r a e)

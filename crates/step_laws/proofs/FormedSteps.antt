@@ -116,7 +116,7 @@ module _ (w : Up) (k : ℕ) (x : Running) (s : SoundUp w) (r : IsRunning w k x) 
       (formed_taken x.source (prepared_snapshot w x (reserved_leg x)) refl prepared_named (below_bound (length x.source.snapshots) most_snapshots source.few e) source)
 
 -- a reason that does not hold
-no_reason : (b : Bool) (reason : Reason) (o : Option Reason) → reason_if b reason o ≡ None → (b ≡ false) × (o ≡ None)
+pub no_reason : (b : Bool) (reason : Reason) (o : Option Reason) → reason_if b reason o ≡ None → (b ≡ false) × (o ≡ None)
 no_reason true reason o e = absurd (cc)
 no_reason false reason o e = (refl, e)
 

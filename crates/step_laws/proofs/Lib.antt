@@ -40,7 +40,6 @@ pub mod Numbered
 pub mod TransferNumbers
 pub mod NumbersStay
 pub mod FamiliesStay
-pub mod DestinationsStay
 pub mod Pigeonhole
 pub mod Room
 pub mod Tests
@@ -50,6 +49,8 @@ pub mod FormedParts
 pub mod FormedEvents
 pub mod MadeNames
 pub mod FormedSteps
+pub mod Bases
+pub mod DestinationsStay
 pub mod Leaving
 pub mod DropsOfEvents
 pub mod DropsOfSteps

@@ -37,6 +37,16 @@ pub get_found : {X : Type 0} (p : X → Bool) (xs : List X) (f : Found X) → fo
 get_found p [] f e = absurd (cc)
 get_found p (x ∷ xs) f e = get_go x xs (p x) (found p xs) f e (λ g. get_found p xs g)
 
+passes_go : {X : Type 0} (p : X → Bool) (x : X) (b : Bool) (o : Option (Found X)) (f : Found X) → p x ≡ b → cond b (Some (record { at = 0; item = x })) (next_place o) ≡ Some f →
+    ((g : Found X) → o ≡ Some g → p g.item ≡ true) → p f.item ≡ true
+passes_go p x true o f h e k = subst (λ f. p f.item ≡ true) (same_Some _ f e) h
+passes_go p x false None f h e k = absurd (cc)
+passes_go p x false (Some g) f h e k = subst (λ f. p f.item ≡ true) (same_Some _ f e) (k g refl)
+
+pub found_passes : {X : Type 0} (p : X → Bool) (xs : List X) (f : Found X) → found p xs ≡ Some f → p f.item ≡ true
+found_passes p [] f e = absurd (cc)
+found_passes p (x ∷ xs) f e = passes_go p x (p x) (found p xs) f refl e (λ g. found_passes p xs g)
+
 pub found_among : {X : Type 0} (p : X → Bool) (xs : List X) (f : Found X) → found p xs ≡ Some f → Among xs f.item
 found_among p xs f e = get_among xs f.at f.item (get_found p xs f e)
 

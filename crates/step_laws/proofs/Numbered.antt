@@ -56,7 +56,7 @@ abbrev pub Apart : Up → Snapshot → Type 0
 Apart new f = (r : Relationship) (t : Transfer) → Among new.relations r → r.transfer ≡ Some t → t.reserved ≡ true →
     has (volume_at new r.source).snapshots (made_ident r.source t.number) ≡ false → ¬ (f.ident ≡ made_ident r.source t.number)
 
-too_new : (old : Up) (s : Snapshot) (v number : ℕ) → NumberStands old s → old.next_transfer ≤ number → ¬ (s.ident ≡ made_ident v number)
+pub too_new : (old : Up) (s : Snapshot) (v number : ℕ) → NumberStands old s → old.next_transfer ≤ number → ¬ (s.ident ≡ made_ident v number)
 too_new old s v number k h e = go k.seq
   where
     seq : s.ident.seq ≡ 2 * number + 1

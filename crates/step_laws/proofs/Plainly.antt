@@ -19,7 +19,7 @@ use Rattle.step_laws.proofs.Changes.{VolumeAt, WritableAt, RelationAt, IsPlain, 
 pub volume_at_place : (w : Up) (p : Volume → Bool) (v : Found Volume) → found p w.volumes ≡ Some v → VolumeAt w v
 volume_at_place w p v e = record { among = found_among p w.volumes v e; at = found_at p w.volumes v no_volume e }
 
-rw_from : (k : Kind) → is_rw k ≡ true → k ≡ Rw
+pub rw_from : (k : Kind) → is_rw k ≡ true → k ≡ Rw
 rw_from Rw e = refl
 rw_from Dp e = absurd (cc)
 

@@ -6,5 +6,6 @@ pub mod Idling
 pub mod Numbers
 pub mod Forming
 pub mod Families
+pub mod Destinations
 pub mod Dropping
 pub mod Runs

@@ -12,6 +12,7 @@ ghost use Rattle.step_laws.specs.Idling.{DeedsKeepEnds, RestartsKeepEnds, Runnin
 ghost use Rattle.step_laws.specs.Numbers.{DeedsKeepNumbers, RestartsKeepNumbers};
 ghost use Rattle.step_laws.specs.Forming.{AnswersKeepForm, DeedsKeepForm, RestartsKeepForm};
 ghost use Rattle.step_laws.specs.Families.{AnswersKeepFamilies, RestartsKeepFamilies, DeedsKeepFamilyNumbers, RestartsKeepFamilyNumbers};
+ghost use Rattle.step_laws.specs.Destinations.{AnswersKeepDestinations, DeedsKeepDestinations, RestartsKeepDestinations};
 ghost use Rattle.step_laws.specs.Dropping.{DropsAreNamed, AnswersDropWhatIsNamed};
 ghost use Rattle.step_laws.specs.Runs.{RunsDoDeeds, RunsKeepTheNeeded, RunsDropWhatIsNamed};
 
@@ -193,6 +194,22 @@ pub fn deeds_keep_family_numbers()
 /// So it is after a restart.
 pub fn restarts_keep_family_numbers()
     ensures { RestartsKeepFamilyNumbers }
+{}
+
+/// After each answer of a sound world each read-only volume stands at one of its snapshots, and each
+/// destination shows what was published last.
+pub fn answers_keep_destinations()
+    ensures { AnswersKeepDestinations }
+{}
+
+/// So they do after each deed.
+pub fn deeds_keep_destinations()
+    ensures { DeedsKeepDestinations }
+{}
+
+/// So they do after a restart of a sound world.
+pub fn restarts_keep_destinations()
+    ensures { RestartsKeepDestinations }
 {}
 
 /// A deed that begins in a sound world drops exactly the snapshots that the rules name for it.
