@@ -1,4 +1,5 @@
-//! Tests of whole runs: a script in, its transcript out; and lists of events, with the answers of the plain machine.
+//! Tests of whole runs: a script in, its transcript out; and of the plain machine: courses of events, each with the
+//! text of its answer.
 #![tactic(auto)]
 
 #[cfg(test)]
