@@ -51,6 +51,7 @@ pub mod MadeNames
 pub mod FormedSteps
 pub mod Bases
 pub mod DestinationsStay
+pub mod TransfersStay
 pub mod Leaving
 pub mod DropsOfEvents
 pub mod DropsOfSteps

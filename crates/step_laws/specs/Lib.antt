@@ -7,5 +7,6 @@ pub mod Numbers
 pub mod Forming
 pub mod Families
 pub mod Destinations
+pub mod Transfers
 pub mod Dropping
 pub mod Runs

@@ -13,6 +13,7 @@ ghost use Rattle.step_laws.specs.Numbers.{DeedsKeepNumbers, RestartsKeepNumbers}
 ghost use Rattle.step_laws.specs.Forming.{AnswersKeepForm, DeedsKeepForm, RestartsKeepForm};
 ghost use Rattle.step_laws.specs.Families.{AnswersKeepFamilies, RestartsKeepFamilies, DeedsKeepFamilyNumbers, RestartsKeepFamilyNumbers};
 ghost use Rattle.step_laws.specs.Destinations.{AnswersKeepDestinations, DeedsKeepDestinations, RestartsKeepDestinations};
+ghost use Rattle.step_laws.specs.Transfers.{DeedsKeepTransfers, RestartsKeepTransfers};
 ghost use Rattle.step_laws.specs.Dropping.{DropsAreNamed, AnswersDropWhatIsNamed};
 ghost use Rattle.step_laws.specs.Runs.{RunsDoDeeds, RunsKeepTheNeeded, RunsDropWhatIsNamed};
 
@@ -210,6 +211,17 @@ pub fn deeds_keep_destinations()
 /// So they do after a restart of a sound world.
 pub fn restarts_keep_destinations()
     ensures { RestartsKeepDestinations }
+{}
+
+/// After each deed that begins in a sound world each standing transfer has a destination that it can go on
+/// to: a writable one only for a resync that shipped nothing, and none of its legs there but the first.
+pub fn deeds_keep_transfers()
+    ensures { DeedsKeepTransfers }
+{}
+
+/// So it has after a restart of a sound world.
+pub fn restarts_keep_transfers()
+    ensures { RestartsKeepTransfers }
 {}
 
 /// A deed that begins in a sound world drops exactly the snapshots that the rules name for it.
