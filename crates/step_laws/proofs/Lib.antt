@@ -49,6 +49,7 @@ pub mod FormedParts
 pub mod FormedEvents
 pub mod MadeNames
 pub mod FormedSteps
+pub mod FamiliesSteps
 pub mod Bases
 pub mod DestinationsStay
 pub mod TransfersStay

@@ -11,7 +11,7 @@ ghost use Rattle.step_laws.specs.Contents.{DeedsAreTraced, ContentsAreTheOrigins
 ghost use Rattle.step_laws.specs.Idling.{DeedsKeepEnds, RestartsKeepEnds, RunningTransfersHaveSteps, IdleIsExact};
 ghost use Rattle.step_laws.specs.Numbers.{DeedsKeepNumbers, RestartsKeepNumbers};
 ghost use Rattle.step_laws.specs.Forming.{AnswersKeepForm, DeedsKeepForm, RestartsKeepForm};
-ghost use Rattle.step_laws.specs.Families.{AnswersKeepFamilies, RestartsKeepFamilies, DeedsKeepFamilyNumbers, RestartsKeepFamilyNumbers};
+ghost use Rattle.step_laws.specs.Families.{AnswersKeepFamilies, DeedsKeepFamilies, RestartsKeepFamilies, DeedsKeepFamilyNumbers, RestartsKeepFamilyNumbers};
 ghost use Rattle.step_laws.specs.Destinations.{AnswersKeepDestinations, DeedsKeepDestinations, RestartsKeepDestinations};
 ghost use Rattle.step_laws.specs.Transfers.{DeedsKeepTransfers, RestartsKeepTransfers};
 ghost use Rattle.step_laws.specs.Dropping.{DropsAreNamed, AnswersDropWhatIsNamed};
@@ -180,6 +180,11 @@ pub fn restarts_keep_form()
 /// Copies of one identity in one family have the same numbers of blocks after each answer of a sound world.
 pub fn answers_keep_families()
     ensures { AnswersKeepFamilies }
+{}
+
+/// So they have after each deed.
+pub fn deeds_keep_families()
+    ensures { DeedsKeepFamilies }
 {}
 
 /// So they have after a restart if they had before.
