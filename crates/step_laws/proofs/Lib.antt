@@ -53,6 +53,8 @@ pub mod FamiliesSteps
 pub mod Bases
 pub mod DestinationsStay
 pub mod TransfersStay
+pub mod CrossedParts
+pub mod CrossedSteps
 pub mod Leaving
 pub mod DropsOfEvents
 pub mod DropsOfSteps

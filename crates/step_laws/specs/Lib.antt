@@ -8,5 +8,6 @@ pub mod Forming
 pub mod Families
 pub mod Destinations
 pub mod Transfers
+pub mod Crossing
 pub mod Dropping
 pub mod Runs

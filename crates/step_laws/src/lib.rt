@@ -14,6 +14,7 @@ ghost use Rattle.step_laws.specs.Forming.{AnswersKeepForm, DeedsKeepForm, Restar
 ghost use Rattle.step_laws.specs.Families.{AnswersKeepFamilies, DeedsKeepFamilies, RestartsKeepFamilies, DeedsKeepFamilyNumbers, RestartsKeepFamilyNumbers};
 ghost use Rattle.step_laws.specs.Destinations.{AnswersKeepDestinations, DeedsKeepDestinations, RestartsKeepDestinations};
 ghost use Rattle.step_laws.specs.Transfers.{DeedsKeepTransfers, RestartsKeepTransfers};
+ghost use Rattle.step_laws.specs.Crossing.{StepsKeepCrossed};
 ghost use Rattle.step_laws.specs.Dropping.{DropsAreNamed, AnswersDropWhatIsNamed};
 ghost use Rattle.step_laws.specs.Runs.{RunsDoDeeds, RunsKeepTheNeeded, RunsDropWhatIsNamed};
 
@@ -227,6 +228,11 @@ pub fn deeds_keep_transfers()
 /// So it has after a restart of a sound world.
 pub fn restarts_keep_transfers()
     ensures { RestartsKeepTransfers }
+{}
+
+/// After each step of a sound world relationships and transfers fit their volumes and each other.
+pub fn steps_keep_crossed()
+    ensures { StepsKeepCrossed }
 {}
 
 /// A deed that begins in a sound world drops exactly the snapshots that the rules name for it.
