@@ -1,16 +1,14 @@
 -- A read-only destination shows what was published last: through each event.
-use Rattle.std.proofs.Common.{◌≡◌, ◌≢◌, ◌⊎◌, ◌==◌, ◌≤◌, ◌||◌, ℕ, Bool, true, false, not, cond, List, [], ◌∷◌, ◌++◌, length, Option, Some, None, Ok, ap, sym, subst, ◌∙◌, refl, inl, inr, eqb-true, arith}
+use Rattle.std.proofs.Common.{◌≡◌, ◌⊎◌, ◌==◌, ℕ, Bool, true, false, not, cond, List, [], ◌∷◌, length, Option, Some, None, ap, sym, subst, ◌∙◌, refl, inl, inr, eqb-true, arith}
 use Rattle.std.proofs.lemmas.Bool.{and_parts, false_from_ne_true}
 use Rattle.std.proofs.lemmas.Option.{same_Some}
 use Rattle.std.specs.Prelude.{slice_set}
-use Rattle.std.specs.Str.{bytes_eq}
 use Rattle.sm_base.specs.declared.numbers.DiskNo.{DiskNo}
 use Rattle.sm_base.specs.declared.numbers.Ident.{Ident}
 use Rattle.sm_base.specs.declared.numbers.Kind.{Kind}
 use Rattle.sm_base.specs.declared.numbers.Kind.TheVariants.{Rw, Dp}
-use Rattle.sm_base.specs.declared.numbers.PolicyKind.{PolicyKind}
 use Rattle.sm_base.specs.declared.numbers.TransferKind.{TransferKind}
-use Rattle.sm_base.specs.declared.numbers.TransferKind.TheVariants.{Initialize, Update, Resync}
+use Rattle.sm_base.specs.declared.numbers.TransferKind.TheVariants.{Initialize, Update}
 use Rattle.sm_defs.specs.Words.{Among, KeysDiffer, Found, found}
 use Rattle.sm_defs.specs.Volume.{Volume, Snapshot, is_rw, ident_of, has, no_volume, new_volume}
 use Rattle.sm_defs.specs.Relationship.{Relationship, Transfer, legs_of}
@@ -21,7 +19,6 @@ use Rattle.sm_model.specs.declared.event.Event.TheVariants as events
 use Rattle.sm_model.specs.Answers.{Reached, Target, goes_to}
 use Rattle.sm_model.specs.Answer.{answer}
 use Rattle.sm_model.specs.OfVolumes as volumes
-use Rattle.sm_model.specs.OfPolicies as policies
 use Rattle.sm_model.specs.OfRelations as relations
 use Rattle.sm_model.specs.OfRelations.{has_a_half}
 use Rattle.sm_model.specs.OfTransfers as transfers
@@ -34,7 +31,7 @@ use Rattle.transfer_laws.specs.Sending.{IsNewIdent}
 use Rattle.transfer_laws.proofs.Lists.{among_append, among_filter, copy_from_has}
 use Rattle.transfer_laws.proofs.Sent.{legs_new}
 use Rattle.step_laws.proofs.Walk.{OfOk, past, with_found, with_ok, with_held, with_target, whether_so, now}
-use Rattle.step_laws.proofs.Members.{among_set, found_passes, found_among, among_get_or}
+use Rattle.step_laws.proofs.Members.{among_set, found_passes, among_get_or}
 use Rattle.step_laws.proofs.Needs.{set_cases, push_within}
 use Rattle.step_laws.proofs.Changes.{RelationAt, VolumeAt}
 use Rattle.step_laws.proofs.Plainly.{volume_at_place, writable_if, writable_at_place, relation_at_place}

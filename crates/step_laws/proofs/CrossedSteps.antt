@@ -1,18 +1,16 @@
 -- Relationships still fit their volumes and each other after each step.
-use Rattle.std.proofs.Common.{◌≡◌, ◌⊎◌, ◌≤◌, ◌<◌, ℕ, Bool, true, false, not, cond, List, [], ◌∷◌, length, Option, Some, None, refl, sym, ◌∙◌, ap, subst, inl, inr, true≢false, arith}
+use Rattle.std.proofs.Common.{◌≡◌, ◌⊎◌, ℕ, Bool, true, false, List, [], ◌∷◌, Some, None, refl, sym, ◌∙◌, ap, subst, inl, inr, true≢false}
 use Rattle.std.specs.Prelude.{slice_get, slice_set}
 use Rattle.std.specs.List.{filter_map}
 use Rattle.std.specs.Option.{option_map}
-use Rattle.std.proofs.lemmas.Bool.{not-false}
 use Rattle.std.proofs.lemmas.Option.{same_Some, get_or_from_slice_get}
 use Rattle.sm_base.specs.declared.numbers.Ident.{Ident}
-use Rattle.sm_base.specs.declared.numbers.Kind.TheVariants.{Rw, Dp}
-use Rattle.sm_base.specs.declared.refusal.Reason.{Reason}
+use Rattle.sm_base.specs.declared.numbers.Kind.TheVariants.{Dp}
 use Rattle.sm_defs.specs.Words.{Among, KeysDiffer}
 use Rattle.sm_defs.specs.Volume.{Volume, Snapshot, has, no_volume, without}
 use Rattle.sm_defs.specs.Relationship.{Relationship, Transfer}
 use Rattle.sm_defs.specs.Legs.{made_ident}
-use Rattle.sm_defs.specs.World.{Up, volume_at, relation_at, with_volume, with_relation, no_relation}
+use Rattle.sm_defs.specs.World.{Up, volume_at, relation_at, with_relation, no_relation}
 use Rattle.sm_model.specs.OfTransfers.{with_transfer, without_transfer}
 use Rattle.sm_model.specs.OfVolumes.{with_snapshot}
 use Rattle.sm_model.specs.Running.{Running, IsRunning}
@@ -27,7 +25,7 @@ use Rattle.step_laws.proofs.Needs.{set_cases}
 use Rattle.step_laws.proofs.NeedsStay.{steps_keep}
 use Rattle.step_laws.proofs.Thinned.{thinned_differ}
 use Rattle.step_laws.proofs.Parties.{relation_stands}
-use Rattle.step_laws.proofs.DueCases.{Ahead, IsDue, due_revert, due_finish, due_settle, due_prepare, due_prune, due_publish, due_checkpoint, due_ship, kind_is_due}
+use Rattle.step_laws.proofs.DueCases.{IsDue, due_revert, due_finish, due_settle, due_prepare, due_prune, due_publish, due_checkpoint, due_ship, kind_is_due}
 use Rattle.step_laws.proofs.TransfersStay.{one_destination}
 use Rattle.step_laws.proofs.CrossedParts.{dest_key, Apart, to_apart, keys_fewer, keys_same, volume_keeps, crossed_volumes, crossed_set, crossed_list, SameEnds, relation_with, transfer_with}
 

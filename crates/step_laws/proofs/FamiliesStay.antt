@@ -13,7 +13,7 @@ use Rattle.sm_model.specs.Answers.{Reached, Told}
 use Rattle.sm_model.specs.Answer.{answer}
 use Rattle.sm_model.specs.OfVolumes.{client_snapshot}
 use Rattle.sm_model.specs.Running.{Running, IsRunning}
-use Rattle.sm_model.specs.Steps.{Effect, family_of_transfer, family_published, is_elsewhere}
+use Rattle.sm_model.specs.Steps.{Effect, family_of_transfer, is_elsewhere}
 use Rattle.sm_model.specs.Due.{StepKind, IsEffect, IsStep, by_transfer, by_tidy}
 use Rattle.sm_model.specs.LegalRun.{IsStepDeed, IsDeed}
 use Rattle.sm_model.specs.Opened.{opened, reopened}

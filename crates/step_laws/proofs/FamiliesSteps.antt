@@ -1,5 +1,5 @@
 -- Copies in one family still have the same numbers after each step, so after each deed.
-use Rattle.std.proofs.Common.{◌≡◌, ◌≢◌, ◌⊎◌, ◌==◌, ◌+◌, ◌&&◌, ◌||◌, ℕ, zero, suc, Bool, true, false, not, cond, List, [], ◌∷◌, Option, Some, None, refl, sym, ◌∙◌, ap, subst, inl, inr, true≢false, eq-eqb, eqb-true, arith}
+use Rattle.std.proofs.Common.{◌≡◌, ◌≢◌, ◌⊎◌, ◌==◌, ◌+◌, ◌&&◌, ℕ, zero, suc, Bool, true, false, not, cond, List, [], ◌∷◌, Some, refl, sym, ◌∙◌, ap, subst, inl, inr, true≢false, eq-eqb, eqb-true, arith}
 use Rattle.std.specs.Prelude.{slice_get}
 use Rattle.std.proofs.lemmas.Bool.{cases_eq, ne_eqb, or_parts}
 use Rattle.std.proofs.lemmas.Option.{same_Some, slice_get_within, get_or_from_slice_get}
@@ -18,16 +18,14 @@ use Rattle.sm_model.specs.World.{Deed}
 use Rattle.sm_model.specs.OfVolumes.{with_snapshot}
 use Rattle.sm_model.specs.Answer.{answer}
 use Rattle.sm_model.specs.Running.{Running, IsRunning}
-use Rattle.sm_model.specs.Steps.{Effect, with_destination, family_of_transfer, reverted, prepared_snapshot, bases, arrived, is_elsewhere, list_published, published}
+use Rattle.sm_model.specs.Steps.{Effect, with_destination, family_of_transfer, reverted, prepared_snapshot, bases, arrived, is_elsewhere, published}
 use Rattle.sm_model.specs.Due.{StepKind, IsEffect, IsStep, by_transfer, by_tidy, reserved_leg, has_other_family, goes, is_tidied}
 use Rattle.sm_model.specs.LegalRun.{IsDeed}
 use Rattle.sm_model.specs.FamiliesAgree.{FamiliesAgree}
-use Rattle.sm_model.specs.FamiliesStand.{InOwnFamily}
 use Rattle.sm_model.specs.Sound.{SoundUp}
-use Rattle.transfer_laws.proofs.Lists.{has_from_copy}
 use Rattle.step_laws.proofs.Walk.{going}
 use Rattle.step_laws.proofs.Members.{among_set, among_get_or}
-use Rattle.step_laws.proofs.Thinned.{filter_thins, thinned_among, thinned_differ}
+use Rattle.step_laws.proofs.Thinned.{filter_thins, thinned_among}
 use Rattle.step_laws.proofs.OfAnswer.{of_answer}
 use Rattle.step_laws.proofs.Deeds.{of_done}
 use Rattle.step_laws.proofs.Leaving.{same_member}

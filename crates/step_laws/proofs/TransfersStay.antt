@@ -1,8 +1,7 @@
 -- Standing transfers still stand after each event, each step and each restart.
-use Rattle.std.proofs.Common.{◌≡◌, ◌≢◌, ◌⊎◌, ◌==◌, ◌&&◌, ◌||◌, ◌*◌, ◌+◌, ℕ, Bool, true, false, not, cond, List, [], ◌∷◌, ◌++◌, length, Option, Some, None, Ok, ap, sym, subst, ◌∙◌, refl, inl, inr, arith, true≢false}
+use Rattle.std.proofs.Common.{◌≡◌, ◌≢◌, ◌⊎◌, ◌&&◌, ◌||◌, ◌*◌, ◌+◌, ℕ, Bool, true, false, not, cond, List, [], ◌∷◌, ◌++◌, length, Option, Some, None, ap, sym, subst, ◌∙◌, refl, inl, inr, arith, true≢false}
 use Rattle.std.specs.Prelude.{slice_set, is_none, is_some}
-use Rattle.std.specs.List.{AllByRecursion}
-use Rattle.std.proofs.lemmas.Bool.{false_from_ne_true, not-false, or_parts}
+use Rattle.std.proofs.lemmas.Bool.{false_from_ne_true, not-false}
 use Rattle.std.proofs.lemmas.Option.{same_Some}
 use Rattle.sm_base.specs.declared.numbers.DiskNo.{DiskNo}
 use Rattle.sm_base.specs.declared.numbers.Ident.{Ident}
@@ -15,7 +14,7 @@ use Rattle.sm_defs.specs.Words.{Among, KeysDiffer, Found, found, same_ident, up_
 use Rattle.sm_defs.specs.Edges.{is_empty}
 use Rattle.sm_defs.specs.Common.{common}
 use Rattle.sm_defs.specs.Volume.{Volume, Snapshot, is_rw, ident_of, has, numbers, no_volume, new_volume, without}
-use Rattle.sm_defs.specs.Relationship.{Policy, Relationship, Transfer, is_mirror}
+use Rattle.sm_defs.specs.Relationship.{Relationship, Transfer, is_mirror}
 use Rattle.sm_defs.specs.Legs.{made_ident}
 use Rattle.sm_defs.specs.World.{Up, volume_at, policy_at, with_volume, with_relation}
 use Rattle.sm_model.specs.declared.event.Event.{Event}
@@ -44,14 +43,14 @@ use Rattle.step_laws.proofs.Walk.{OfOk, past, with_found, with_ok, with_held, wi
 use Rattle.step_laws.proofs.Members.{among_set, among_get_or}
 use Rattle.step_laws.proofs.Needs.{set_cases, push_within, mapped_at, split_at}
 use Rattle.step_laws.proofs.Thinned.{filter_thins, thinned_among}
-use Rattle.step_laws.proofs.Changes.{RelationAt, VolumeAt}
-use Rattle.step_laws.proofs.Plainly.{rw_from, volume_at_place, writable_if, writable_at_place, relation_at_place}
+use Rattle.step_laws.proofs.Changes.{RelationAt}
+use Rattle.step_laws.proofs.Plainly.{rw_from, volume_at_place, writable_at_place, relation_at_place}
 use Rattle.step_laws.proofs.OfVolumeEvents.{named_at_place}
 use Rattle.step_laws.proofs.OfRelationEvents.{released_at, filled}
 use Rattle.step_laws.proofs.OfAnswer.{OfAnswer}
 use Rattle.step_laws.proofs.DropsOfEvents.{done_gives}
 use Rattle.step_laws.proofs.Fresh.{client_fresh}
-use Rattle.step_laws.proofs.Parties.{relation_stands, destination_stands, source_stands, snapshot_is}
+use Rattle.step_laws.proofs.Parties.{relation_stands, snapshot_is}
 use Rattle.step_laws.proofs.DueCases.{Ahead, IsDue, due_revert, due_finish, due_settle, due_prepare, due_prune, due_publish, due_checkpoint, due_ship, kind_is_due}
 use Rattle.step_laws.proofs.Landing.{reverted_thins}
 use Rattle.step_laws.proofs.Leaving.{same_member, after_among}
