@@ -1,7 +1,6 @@
 -- Where no relationship and no policy stands, volumes alone make a world sound.
 use Rattle.std.proofs.Common.{◌≡◌, List, [], sym, subst}
 use Rattle.sm_defs.specs.Words.{Among, KeysDiffer}
-use Rattle.sm_defs.specs.Volume.{Volume}
 use Rattle.sm_defs.specs.Relationship.{Relationship}
 use Rattle.sm_defs.specs.World.{Up}
 use Rattle.std.specs.Prelude.{ℕ}

@@ -8,13 +8,13 @@ use Rattle.sm_model.specs.World.{Deed}
 use Rattle.sm_model.specs.LegalRun.{IsDeed}
 use Rattle.sm_model.specs.Sound.{SoundUp}
 use Rattle.step_laws.proofs.Walk.{past, with_found, with_ok, now}
-use Rattle.step_laws.proofs.OfAnswer.{OfAnswer, of_answer}
-use Rattle.step_laws.proofs.Deeds.{of_done}
+use Rattle.step_laws.proofs.OfAnswer.{OfAnswer}
 use Rattle.step_laws.proofs.DropsOfEvents.{done_gives}
 use Rattle.step_laws.proofs.TagsStay as tags
 use Rattle.step_laws.proofs.CopiesStay.{deeds_keep_copies}
 use Rattle.step_laws.proofs.NumbersStay.{deeds_keep_numbers}
-use Rattle.step_laws.proofs.FamiliesStay.{answered_agree, deeds_keep_given}
+use Rattle.step_laws.proofs.FamiliesStay.{deeds_keep_given}
+use Rattle.step_laws.proofs.FamiliesSteps.{deeds_keep_families}
 use Rattle.step_laws.proofs.DestinationsStay.{deeds_keep_destinations}
 use Rattle.step_laws.proofs.FormedSteps.{deeds_keep_form}
 use Rattle.sm_laws.specs.Early.{IsEarly, creates, writes, snaps, reads, heads, lists, digests, IsBare}
@@ -37,14 +37,13 @@ leaves w (digests volume place) = now _ _ (refl, refl)
 pub early_keeps : (e : Event) (d : Deed) → IsEarly e → IsGiven e → IsDeed e d → SoundUp d.old → IsBare d.old → SoundUp d.new × IsBare d.new
 early_keeps e d y g i s b =
     let done = deed_done d y i in
-    let a = of_done e (answer d.old e) d (of_answer d.old e) done in
     let l = done_gives (Leaves d.old) (answer d.old e) d (leaves d.old y) done in
     let bare : IsBare d.new = record { relations = l.0 ∙ b.relations; policies = l.1 ∙ b.policies } in (
       sound_if_bare d.new bare (record {
         formed = deeds_keep_form e d s g i;
         tags_fit = tags.of_deed e d s i;
         copies_agree = deeds_keep_copies e d s i;
-        families_agree = answered_agree d.old d.new e a.tells s a.is;
+        families_agree = deeds_keep_families e d s i;
         destinations_stand = deeds_keep_destinations e d s i;
         numbers_stand = deeds_keep_numbers e d s g i;
         families = deeds_keep_given e d s i;

@@ -1,5 +1,5 @@
 -- Legal runs keep the sound world.
-use Rattle.std.proofs.Common.{◌≡◌, List, [], ◌∷◌, sym, subst}
+use Rattle.std.proofs.Common.{List, [], ◌∷◌, sym, subst}
 use Rattle.sm_base.specs.declared.numbers.Side.{Side}
 use Rattle.sm_defs.specs.Words.{Among}
 use Rattle.sm_defs.specs.World.{Up}

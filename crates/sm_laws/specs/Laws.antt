@@ -1,5 +1,5 @@
 -- The laws, in words of the definitions.
-use Rattle.std.specs.Prelude.{◌≡◌, ℕ, ◌≤◌, List, ◌++◌, map, Some, Ok, Err, slice_get}
+use Rattle.std.specs.Prelude.{◌≡◌, ℕ, ◌≤◌, List, ◌++◌, map, Some, Err, slice_get}
 use Rattle.sm_base.specs.declared.numbers.DiskNo.{DiskNo}
 use Rattle.sm_base.specs.declared.numbers.Kind.{Kind}
 use Rattle.sm_base.specs.declared.numbers.Side.{Side}

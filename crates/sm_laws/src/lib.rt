@@ -31,11 +31,11 @@ pub use step_laws::{
 // Parts of soundness that are kept.
 pub use step_laws::{
     answers_keep_copies, answers_keep_destinations, answers_keep_families, answers_keep_form,
-    answers_keep_tags, deeds_keep_copies, deeds_keep_destinations, deeds_keep_family_numbers,
-    deeds_keep_form, deeds_keep_numbers, deeds_keep_tags, restarts_keep_copies,
-    restarts_keep_destinations, restarts_keep_families, restarts_keep_family_numbers,
-    restarts_keep_form, restarts_keep_numbers, restarts_keep_tags, steps_keep_copies,
-    steps_keep_tags,
+    answers_keep_tags, deeds_keep_copies, deeds_keep_destinations, deeds_keep_families,
+    deeds_keep_family_numbers, deeds_keep_form, deeds_keep_numbers, deeds_keep_tags,
+    deeds_keep_transfers, restarts_keep_copies, restarts_keep_destinations, restarts_keep_families,
+    restarts_keep_family_numbers, restarts_keep_form, restarts_keep_numbers, restarts_keep_tags,
+    restarts_keep_transfers, steps_keep_copies, steps_keep_crossed, steps_keep_tags,
 };
 
 // Each snapshot has the contents that its origin held.

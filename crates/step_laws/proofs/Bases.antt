@@ -1,16 +1,14 @@
 -- A read-only destination shows what was published last: through each event.
-use Rattle.std.proofs.Common.{◌≡◌, ◌≢◌, ◌⊎◌, ◌==◌, ◌≤◌, ◌||◌, ℕ, Bool, true, false, not, cond, List, [], ◌∷◌, ◌++◌, length, Option, Some, None, Ok, ap, sym, subst, ◌∙◌, refl, inl, inr, eqb-true, arith}
+use Rattle.std.proofs.Common.{◌≡◌, ◌⊎◌, ◌==◌, ℕ, Bool, true, false, not, cond, List, [], ◌∷◌, length, Option, Some, None, ap, sym, subst, ◌∙◌, refl, inl, inr, eqb-true, arith}
 use Rattle.std.proofs.lemmas.Bool.{and_parts, false_from_ne_true}
 use Rattle.std.proofs.lemmas.Option.{same_Some}
 use Rattle.std.specs.Prelude.{slice_set}
-use Rattle.std.specs.Str.{bytes_eq}
 use Rattle.sm_base.specs.declared.numbers.DiskNo.{DiskNo}
 use Rattle.sm_base.specs.declared.numbers.Ident.{Ident}
 use Rattle.sm_base.specs.declared.numbers.Kind.{Kind}
 use Rattle.sm_base.specs.declared.numbers.Kind.TheVariants.{Rw, Dp}
-use Rattle.sm_base.specs.declared.numbers.PolicyKind.{PolicyKind}
 use Rattle.sm_base.specs.declared.numbers.TransferKind.{TransferKind}
-use Rattle.sm_base.specs.declared.numbers.TransferKind.TheVariants.{Initialize, Update, Resync}
+use Rattle.sm_base.specs.declared.numbers.TransferKind.TheVariants.{Initialize, Update}
 use Rattle.sm_defs.specs.Words.{Among, KeysDiffer, Found, found}
 use Rattle.sm_defs.specs.Volume.{Volume, Snapshot, is_rw, ident_of, has, no_volume, new_volume}
 use Rattle.sm_defs.specs.Relationship.{Relationship, Transfer, legs_of}
@@ -21,7 +19,6 @@ use Rattle.sm_model.specs.declared.event.Event.TheVariants as events
 use Rattle.sm_model.specs.Answers.{Reached, Target, goes_to}
 use Rattle.sm_model.specs.Answer.{answer}
 use Rattle.sm_model.specs.OfVolumes as volumes
-use Rattle.sm_model.specs.OfPolicies as policies
 use Rattle.sm_model.specs.OfRelations as relations
 use Rattle.sm_model.specs.OfRelations.{has_a_half}
 use Rattle.sm_model.specs.OfTransfers as transfers
@@ -34,7 +31,7 @@ use Rattle.transfer_laws.specs.Sending.{IsNewIdent}
 use Rattle.transfer_laws.proofs.Lists.{among_append, among_filter, copy_from_has}
 use Rattle.transfer_laws.proofs.Sent.{legs_new}
 use Rattle.step_laws.proofs.Walk.{OfOk, past, with_found, with_ok, with_held, with_target, whether_so, now}
-use Rattle.step_laws.proofs.Members.{among_set, found_passes, found_among, among_get_or}
+use Rattle.step_laws.proofs.Members.{among_set, found_passes, among_get_or}
 use Rattle.step_laws.proofs.Needs.{set_cases, push_within}
 use Rattle.step_laws.proofs.Changes.{RelationAt, VolumeAt}
 use Rattle.step_laws.proofs.Plainly.{volume_at_place, writable_if, writable_at_place, relation_at_place}
@@ -110,8 +107,11 @@ relation_bases w k q h f r m = go (among_set w.relations k q r m)
 abbrev Show : Reached → Type 0
 Show r = AllShow r.world
 
-goes_there : (w : Up) (i : ℕ) (r : Found Relationship) → found (goes_to i) w.relations ≡ Some r → r.item.destination ≡ i
+pub goes_there : (w : Up) (i : ℕ) (r : Found Relationship) → found (goes_to i) w.relations ≡ Some r → r.item.destination ≡ i
 goes_there w i r e = eqb-true r.item.destination i (and_parts r.item.destination_half (r.item.destination == i) (found_passes (goes_to i) w.relations r e)).1
+
+pub goes_half : (w : Up) (i : ℕ) (r : Found Relationship) → found (goes_to i) w.relations ≡ Some r → r.item.destination_half ≡ true
+goes_half w i r e = (and_parts r.item.destination_half (r.item.destination == i) (found_passes (goes_to i) w.relations r e)).0
 
 create_volume : (w : Up) (path : List ℕ) (disk : DiskNo) (kind : Kind) (l p : ℕ) → SoundUp w → OfOk Show (volumes.create_volume w path disk kind l p)
 create_volume w path disk kind l p s = past _ _ _ _ (λ _. past _ _ _ _ (λ _. with_found _ _ _ _ (λ len _. past _ _ _ _ (λ _. past _ _ _ _ (λ _. past _ _ _ _ (λ _. now Show _
@@ -157,24 +157,34 @@ release : (w : Up) (s d : List ℕ) → SoundUp w → OfOk Show (relations.relea
 release w s d h = with_found _ _ _ _ (λ s _. with_found _ _ _ _ (λ d _. with_found _ _ _ _ (λ r is. past _ _ _ _ (λ _. past _ _ _ _ (λ _. let a = released_at w _ _ r is in now Show _
     (halves_bases w r.at _ h.destinations_stand.bases (shows_same (volume_at w r.item.destination) r.item (relations.without_source r.item) (λ x. x) refl (λ b. refl) (h.destinations_stand.bases r.item a.among))))))))
 
--- the legs of the next transfer are not at the destination
-new_lacked : (w : Up) (r : Relationship) (base : Option Ident) (v : Volume) → SoundUp w → Among w.volumes v → (i : Ident) → Among (transfers.next_legs w r base v.snapshots).idents i → has v.snapshots i ≡ false
-new_lacked w r base v s m i n = go (transfers.next_legs w r base v.snapshots).reserved refl
+-- a leg of the next transfer is new to the destination, or is to be made
+pub new_or_made : (w : Up) (r : Relationship) (base : Option Ident) (there : List Snapshot) (i : Ident) → Among (transfers.next_legs w r base there).idents i →
+    IsNewIdent base (transfers.source_of w r) there i ⊎ (i ≡ made_ident r.source w.next_transfer)
+new_or_made w r base there i n = go (transfers.next_legs w r base there).reserved refl
   where
-    lacks : IsNewIdent base (transfers.source_of w r) v.snapshots i → has v.snapshots i ≡ false
-    lacks (t, k, e) = false_from_ne_true (has v.snapshots i) (λ h. k.1 (copy_from_has v.snapshots t.ident (subst (λ j. has v.snapshots j ≡ true) (sym e) h)))
+    last : (sent : List Ident) → ((j : Ident) → Among sent j → IsNewIdent base (transfers.source_of w r) there j) → Among sent i ⊎ Among (made_ident r.source w.next_transfer ∷ []) i →
+        IsNewIdent base (transfers.source_of w r) there i ⊎ (i ≡ made_ident r.source w.next_transfer)
+    last sent each (inl k) = inl (each i k)
+    last sent each (inr (inl k)) = inr k
+    last sent each (inr (inr k)) = absurd k
 
-    made : i ≡ made_ident r.source w.next_transfer → has v.snapshots i ≡ false
-    made e = false_from_ne_true (has v.snapshots i) (λ h. let (t, k, q) = copy_from_has v.snapshots i h in too_new w t r.source w.next_transfer (s.numbers_stand.snapshots v t (m, k)) (omega arith) (q ∙ e))
+    go : (b : Bool) → (transfers.next_legs w r base there).reserved ≡ b → IsNewIdent base (transfers.source_of w r) there i ⊎ (i ≡ made_ident r.source w.next_transfer)
+    go false e = inl ((legs_new w.next_transfer (policy_at w r.policy) base (transfers.source_of w r) there).0 e i n)
+    go true e = let (sent, f, each) = (legs_new w.next_transfer (policy_at w r.policy) base (transfers.source_of w r) there).1 e in
+        last sent each (among_append sent (made_ident r.source w.next_transfer ∷ []) i (subst (λ is. Among is i) f n))
 
-    go : (b : Bool) → (transfers.next_legs w r base v.snapshots).reserved ≡ b → has v.snapshots i ≡ false
-    go false e = lacks ((legs_new w.next_transfer (policy_at w r.policy) base (transfers.source_of w r) v.snapshots).0 e i n)
-    go true e = let (sent, f, each) = (legs_new w.next_transfer (policy_at w r.policy) base (transfers.source_of w r) v.snapshots).1 e in last sent each (among_append sent (made_ident r.source w.next_transfer ∷ []) i (subst (λ is. Among is i) f n))
-      where
-        last : (sent : List Ident) → ((j : Ident) → Among sent j → IsNewIdent base (transfers.source_of w r) v.snapshots j) → Among sent i ⊎ Among (made_ident r.source w.next_transfer ∷ []) i → has v.snapshots i ≡ false
-        last sent each (inl k) = lacks (each i k)
-        last sent each (inr (inl k)) = made k
-        last sent each (inr (inr k)) = absurd k
+-- what is to be made is nowhere
+pub made_lacked : (w : Up) (v : Volume) (source : ℕ) → SoundUp w → Among w.volumes v → has v.snapshots (made_ident source w.next_transfer) ≡ false
+made_lacked w v source s m = false_from_ne_true (has v.snapshots (made_ident source w.next_transfer)) (λ h. let (t, k, q) = copy_from_has v.snapshots (made_ident source w.next_transfer) h in
+    too_new w t source w.next_transfer (s.numbers_stand.snapshots v t (m, k)) (omega arith) q)
+
+-- the legs of the next transfer are not at the destination
+pub new_lacked : (w : Up) (r : Relationship) (base : Option Ident) (v : Volume) → SoundUp w → Among w.volumes v → (i : Ident) → Among (transfers.next_legs w r base v.snapshots).idents i → has v.snapshots i ≡ false
+new_lacked w r base v s m i n = go (new_or_made w r base v.snapshots i n)
+  where
+    go : IsNewIdent base (transfers.source_of w r) v.snapshots i ⊎ (i ≡ made_ident r.source w.next_transfer) → has v.snapshots i ≡ false
+    go (inl (t, k, e)) = false_from_ne_true (has v.snapshots i) (λ h. k.1 (copy_from_has v.snapshots t.ident (subst (λ j. has v.snapshots j ≡ true) (sym e) h)))
+    go (inr e) = subst (λ j. has v.snapshots j ≡ false) (sym e) (made_lacked w v r.source s m)
 
 start_it : (w : Up) (r : Found Relationship) (kind : TransferKind) → SoundUp w → RelationAt w r → r.item.transfer ≡ None → OfOk Show (transfers.start_it w r.at r.item kind)
 start_it w r kind s a e = with_held _ _ _ (λ _. whether_so _ _ _ _ (λ _. now Show _ s.destinations_stand.bases) (λ some. past _ _ _ _ (λ c. now Show _

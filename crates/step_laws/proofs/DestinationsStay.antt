@@ -1,5 +1,5 @@
 -- Each read-only volume still stands at one of its snapshots, and each destination shows what was published last.
-use Rattle.std.proofs.Common.{◌≡◌, ◌≢◌, ◌⊎◌, ◌<◌, ◌&&◌, ℕ, Bool, true, false, not, cond, List, [], ◌∷◌, ◌++◌, length, Option, Some, None, Ok, refl, sym, ap, subst, ◌∙◌, inl, inr, true≢false}
+use Rattle.std.proofs.Common.{◌≡◌, ◌⊎◌, ◌&&◌, ℕ, Bool, true, false, not, cond, List, [], ◌∷◌, ◌++◌, length, Option, Some, None, Ok, refl, sym, ap, subst, ◌∙◌, inl, inr, true≢false}
 use Rattle.std.specs.Prelude.{nat_lt}
 use Rattle.std.specs.List.{find}
 use Rattle.std.proofs.lemmas.Bool.{and_parts, false_from_ne_true, not-false, not_from_false}
@@ -10,7 +10,6 @@ use Rattle.sm_model.specs.declared.event.Event.{Event}
 use Rattle.sm_model.specs.declared.event.Event.TheVariants as events
 use Rattle.sm_defs.specs.Words.{Among, KeysDiffer, same_ident, up_to}
 use Rattle.sm_defs.specs.Thinned.{Thinned}
-use Rattle.sm_defs.specs.Image.{Block}
 use Rattle.sm_defs.specs.Volume.{Volume, Snapshot, is_rw, ident_of, has, no_volume, without}
 use Rattle.sm_defs.specs.Relationship.{Relationship, Transfer, is_mirror, is_resync, legs_of}
 use Rattle.sm_defs.specs.Needed.{needed}
@@ -25,7 +24,7 @@ use Rattle.sm_model.specs.Steps.{Effect, with_destination, reverted, snapshot_of
 use Rattle.sm_model.specs.Due.{StepKind, IsEffect, IsStep, by_transfer, by_tidy, is_reverting, settled_relation, goes}
 use Rattle.sm_model.specs.LegalRun.{IsDeed}
 use Rattle.sm_model.specs.Opened.{opened, reopened, rejoined, restarted}
-use Rattle.sm_model.specs.Standing.{Stored, EachVolume}
+use Rattle.sm_model.specs.Standing.{EachVolume}
 use Rattle.sm_model.specs.Crossed.{destination_of, with_destination_half}
 use Rattle.sm_model.specs.DestinationsStand.{StandsAtSnapshot, newest_published, StandsAtBase, DestinationsStand}
 use Rattle.sm_model.specs.TransfersStand.{later, IsFirst, TransferStands}

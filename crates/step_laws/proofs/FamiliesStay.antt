@@ -13,7 +13,7 @@ use Rattle.sm_model.specs.Answers.{Reached, Told}
 use Rattle.sm_model.specs.Answer.{answer}
 use Rattle.sm_model.specs.OfVolumes.{client_snapshot}
 use Rattle.sm_model.specs.Running.{Running, IsRunning}
-use Rattle.sm_model.specs.Steps.{Effect, family_of_transfer, family_published, is_elsewhere}
+use Rattle.sm_model.specs.Steps.{Effect, family_of_transfer, is_elsewhere}
 use Rattle.sm_model.specs.Due.{StepKind, IsEffect, IsStep, by_transfer, by_tidy}
 use Rattle.sm_model.specs.LegalRun.{IsStepDeed, IsDeed}
 use Rattle.sm_model.specs.Opened.{opened, reopened}
@@ -40,15 +40,15 @@ use Rattle.step_laws.proofs.Brings.{tidy_within}
 -- ---- copies in one family
 
 -- a snapshot of the identity and the numbers stood in the volume's family
-record ComesInFamily (w : Up) (v : Volume) (s : Snapshot) : Type 0 where
-  volume : Volume
-  snapshot : Snapshot
-  stands : Stands w volume snapshot
-  family : volume.family ≡ v.family
-  ident : snapshot.ident ≡ s.ident
-  numbers : tags snapshot.image ≡ tags s.image
+pub record ComesInFamily (w : Up) (v : Volume) (s : Snapshot) : Type 0 where
+  pub volume : Volume
+  pub snapshot : Snapshot
+  pub stands : Stands w volume snapshot
+  pub family : volume.family ≡ v.family
+  pub ident : snapshot.ident ≡ s.ident
+  pub numbers : tags snapshot.image ≡ tags s.image
 
-abbrev AllInFamily : Up → Up → Type 0
+abbrev pub AllInFamily : Up → Up → Type 0
 AllInFamily old new = (v : Volume) (s : Snapshot) → Stands new v s → ComesInFamily old v s
 
 stays_in_family : (w : Up) (v : Volume) (s : Snapshot) → Stands w v s → ComesInFamily w v s
@@ -58,11 +58,11 @@ both_come : (w : Up) (v u : Volume) (s t : Snapshot) → FamiliesAgree w → v.f
 both_come w v u s t k f e x y =
     sym x.numbers ∙ (k x.volume y.volume x.snapshot y.snapshot x.stands y.stands (x.family ∙ (f ∙ sym y.family)) (x.ident ∙ (e ∙ sym y.ident)) ∙ y.numbers)
 
-families_come : (old new : Up) → AllInFamily old new → FamiliesAgree old → FamiliesAgree new
+pub families_come : (old new : Up) → AllInFamily old new → FamiliesAgree old → FamiliesAgree new
 families_come old new h k v u s t a b f e = both_come old v u s t k f e (h v s a) (h u t b)
 
 -- one snapshot is new, and no other has its identity
-families_fresh : (old new : Up) (n : Snapshot) → ((v : Volume) (s : Snapshot) → Stands new v s → ComesInFamily old v s ⊎ (s ≡ n)) →
+pub families_fresh : (old new : Up) (n : Snapshot) → ((v : Volume) (s : Snapshot) → Stands new v s → ComesInFamily old v s ⊎ (s ≡ n)) →
     ((v : Volume) (s : Snapshot) → Stands old v s → ¬ (s.ident ≡ n.ident)) → FamiliesAgree old → FamiliesAgree new
 families_fresh old new n h fresh k v u s t a b f e = go (h v s a) (h u t b)
   where
@@ -76,10 +76,10 @@ families_fresh old new n h fresh k v u s t a b f e = go (h v s a) (h u t b)
 of_old : (w : Up) (v u : Volume) (s : Snapshot) → Among w.volumes v → Among v.snapshots s → u.family ≡ v.family → ComesInFamily w u s
 of_old w v u s m n e = record { volume = v; snapshot = s; stands = (m, n); family = sym e; ident = refl; numbers = refl }
 
-thinned_in_family : (w : Up) (i : ℕ) (v u : Volume) → Among w.volumes v → u.family ≡ v.family → Thinned u.snapshots v.snapshots → AllInFamily w (with_volume w i u)
+pub thinned_in_family : (w : Up) (i : ℕ) (v u : Volume) → Among w.volumes v → u.family ≡ v.family → Thinned u.snapshots v.snapshots → AllInFamily w (with_volume w i u)
 thinned_in_family w i v u m e t = stands_set (ComesInFamily w) w i u (λ s n. of_old w v u s m (thinned_among t s n) e) (stays_in_family w)
 
-one_in_family : (w : Up) (i : ℕ) (v u : Volume) (f : Snapshot) → Among w.volumes v → u.family ≡ v.family → u.snapshots ≡ v.snapshots ++ f ∷ [] →
+pub one_in_family : (w : Up) (i : ℕ) (v u : Volume) (f : Snapshot) → Among w.volumes v → u.family ≡ v.family → u.snapshots ≡ v.snapshots ++ f ∷ [] →
     (z : Volume) (s : Snapshot) → Stands (with_volume w i u) z s → ComesInFamily w z s ⊎ (s ≡ f)
 one_in_family w i v u f m e g = stands_set (λ z s. ComesInFamily w z s ⊎ (s ≡ f)) w i u (λ s n. each s (among_append v.snapshots (f ∷ []) s (subst (λ ss. Among ss s) g n))) (λ z s h. inl (stays_in_family w z s h))
   where

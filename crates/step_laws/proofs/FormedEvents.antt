@@ -12,7 +12,7 @@ use Rattle.sm_base.specs.declared.numbers.TransferKind.TheVariants.{Initialize, 
 use Rattle.sm_defs.specs.Limits.{most_volumes, most_policies, most_relations, most_snapshots, most_rules, last_number, last_relation, last_second}
 use Rattle.sm_defs.specs.Words.{Found}
 use Rattle.sm_defs.specs.Edges.{is_empty}
-use Rattle.sm_defs.specs.Volume.{Volume, Snapshot, used, has, no_volume, new_volume}
+use Rattle.sm_defs.specs.Volume.{Snapshot, used, has, no_volume, new_volume}
 use Rattle.sm_defs.specs.Relationship.{Relationship, Transfer}
 use Rattle.sm_defs.specs.World.{Up, volume_at, policy_at, relation_at, with_relation, no_policy}
 use Rattle.sm_model.specs.declared.event.Event.{Event}

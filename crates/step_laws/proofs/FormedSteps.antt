@@ -1,5 +1,5 @@
 -- What each step makes is a world that is formed.
-use Rattle.std.proofs.Common.{◌≡◌, ◌≢◌, ◌⊎◌, ◌==◌, ◌≤◌, ◌<◌, ◌&&◌, ℕ, zero, suc, Bool, true, false, not, cond, List, [], ◌∷◌, ◌++◌, length, map, Option, Some, None, ap, sym, subst, ◌∙◌, refl, inl, inr, arith}
+use Rattle.std.proofs.Common.{◌≡◌, ◌≢◌, ◌⊎◌, ◌==◌, ◌≤◌, ℕ, zero, suc, Bool, true, false, cond, List, [], ◌∷◌, length, map, Option, Some, None, ap, sym, subst, ◌∙◌, refl, inl, inr, arith}
 use Rattle.std.specs.Prelude.{slice_get, slice_index_or, nat_lt}
 use Rattle.std.specs.List.{list_all}
 use Rattle.std.proofs.lemmas.Bool.{ltb-false}
@@ -20,14 +20,14 @@ use Rattle.sm_model.specs.declared.event.Event.TheVariants as events
 use Rattle.sm_model.specs.InRange.{IsGiven}
 use Rattle.sm_model.specs.OfTransfers.{with_transfer, without_transfer}
 use Rattle.sm_model.specs.OfVolumes.{with_snapshot}
-use Rattle.sm_model.specs.Running.{Running, IsRunning, running_in}
+use Rattle.sm_model.specs.Running.{Running, IsRunning}
 use Rattle.sm_model.specs.Steps.{Effect, with_destination, interrupted, reverted, prepared_snapshot, snapshot_of, bases, image_or_none, cost, landing, arrived, list_published, published, all_landed}
 use Rattle.sm_model.specs.Due.{StepKind, IsEffect, IsStep, by_transfer, by_tidy, reason_if, reserved_leg, settled_relation, goes}
 use Rattle.sm_model.specs.LegalRun.{IsDeed}
 use Rattle.sm_model.specs.Opened.{opened, reopened, rejoined, restarted}
 use Rattle.sm_model.specs.Answer.{answer}
 use Rattle.sm_model.specs.Standing.{Stored}
-use Rattle.sm_model.specs.Formed.{FormedSnapshot, FormedVolume, FormedTransfer, FormedRelation, Formed, path_of, disk_of}
+use Rattle.sm_model.specs.Formed.{FormedSnapshot, FormedVolume, FormedTransfer, FormedRelation, Formed}
 use Rattle.sm_model.specs.LegsFit.{FirstFits}
 use Rattle.sm_model.specs.Sound.{SoundUp}
 use Rattle.transfer_laws.proofs.Lists.{among_map}
@@ -45,8 +45,8 @@ use Rattle.step_laws.proofs.Room.{free_long}
 use Rattle.step_laws.proofs.Tests.{below_bound}
 use Rattle.step_laws.proofs.MadeNames.{made_is_name}
 use Rattle.step_laws.proofs.Shapes.{formed_fewer, formed_thinned, formed_taken, formed_reopened}
-use Rattle.step_laws.proofs.FormedParts.{Continues, formed_running, formed_stopped, formed_settled}
-use Rattle.step_laws.proofs.FormedWorlds.{FormedProgress, formed_at, relation_set, volumes_mapped, relations_mapped}
+use Rattle.step_laws.proofs.FormedParts.{formed_running, formed_stopped, formed_settled}
+use Rattle.step_laws.proofs.FormedWorlds.{formed_at, relation_set, volumes_mapped, relations_mapped}
 use Rattle.step_laws.proofs.FormedEvents as events_formed
 use Rattle.step_laws.proofs.FormedEvents.{only_transfer}
 

@@ -49,8 +49,12 @@ pub mod FormedParts
 pub mod FormedEvents
 pub mod MadeNames
 pub mod FormedSteps
+pub mod FamiliesSteps
 pub mod Bases
 pub mod DestinationsStay
+pub mod TransfersStay
+pub mod CrossedParts
+pub mod CrossedSteps
 pub mod Leaving
 pub mod DropsOfEvents
 pub mod DropsOfSteps

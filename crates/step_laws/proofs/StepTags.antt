@@ -1,5 +1,5 @@
 -- Tags fit what a step makes of a destination.
-use Rattle.std.proofs.Common.{◌≡◌, ◌≢◌, ◌⊎◌, ◌==◌, ◌&&◌, ℕ, Bool, true, false, cond, not, List, [], ◌∷◌, ◌++◌, Option, Some, None, refl, sym, ap, subst, ◌∙◌, inl, inr, true≢false, map}
+use Rattle.std.proofs.Common.{◌≡◌, ◌≢◌, ◌⊎◌, ◌==◌, ◌&&◌, ℕ, Bool, true, false, cond, not, List, [], ◌∷◌, Option, Some, None, refl, sym, ap, subst, ◌∙◌, inl, inr, true≢false, map}
 use Rattle.std.proofs.lemmas.Bool.{eqb-false, and_from}
 use Rattle.std.specs.Prelude.{slice_get}
 use Rattle.sm_base.specs.declared.numbers.Kind.{Kind}
@@ -10,7 +10,6 @@ use Rattle.sm_defs.specs.Words.{Among}
 use Rattle.sm_defs.specs.Image.{Block, Image, hole}
 use Rattle.sm_defs.specs.Volume.{Volume, Snapshot, ident_of, image_of, images_of, is_rw, free_tags}
 use Rattle.sm_defs.specs.Relationship.{is_mirror, is_resync}
-use Rattle.sm_defs.specs.Thinned.{Thinned}
 use Rattle.sm_defs.specs.Missing.{vault_landing}
 use Rattle.sm_defs.specs.World.{Up}
 use Rattle.sm_model.specs.Standing.{Stored}

@@ -14,11 +14,11 @@ head_differs : (o : Option ℕ) (rs : List Relationship) (n m : ℕ) → KeysDif
 head_differs None rs n m d e k f = absurd (cc)
 head_differs (Some x) rs n m d e k f = among_each (λ y. ¬ (y ≡ x)) (filter_map transfer_number rs) m d.0 k (f ∙ sym (Rattle.std.proofs.lemmas.Option.same_Some x n e))
 
-tail_differ : (o : Option ℕ) (ns : List ℕ) → KeysDiffer (λ (k : ℕ). k) (Rattle.std.specs.List.cons_option o ns) → KeysDiffer (λ (k : ℕ). k) ns
+pub tail_differ : (o : Option ℕ) (ns : List ℕ) → KeysDiffer (λ (k : ℕ). k) (Rattle.std.specs.List.cons_option o ns) → KeysDiffer (λ (k : ℕ). k) ns
 tail_differ None ns d = d
 tail_differ (Some x) ns d = d.1
 
-cons_among : (o : Option ℕ) (ns : List ℕ) (n : ℕ) → (o ≡ Some n) ⊎ Among ns n → Among (Rattle.std.specs.List.cons_option o ns) n
+pub cons_among : (o : Option ℕ) (ns : List ℕ) (n : ℕ) → (o ≡ Some n) ⊎ Among ns n → Among (Rattle.std.specs.List.cons_option o ns) n
 cons_among None ns n (inl e) = absurd (cc)
 cons_among None ns n (inr m) = m
 cons_among (Some x) ns n (inl e) = inl (sym (Rattle.std.proofs.lemmas.Option.same_Some x n e))

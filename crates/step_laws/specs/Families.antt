@@ -15,6 +15,9 @@ use Rattle.sm_model.specs.Sound.{SoundUp}
 abbrev pub AnswersKeepFamilies : Type 0
 AnswersKeepFamilies = (w : Up) (e : Event) (reached : Reached) → SoundUp w → answer w e ≡ Some (Ok reached) → FamiliesAgree reached.world
 
+abbrev pub DeedsKeepFamilies : Type 0
+DeedsKeepFamilies = (e : Event) (d : Deed) → SoundUp d.old → IsDeed e d → FamiliesAgree d.new
+
 abbrev pub RestartsKeepFamilies : Type 0
 RestartsKeepFamilies = (w : Up) → FamiliesAgree w → FamiliesAgree (opened w)
 

@@ -7,5 +7,7 @@ pub mod Numbers
 pub mod Forming
 pub mod Families
 pub mod Destinations
+pub mod Transfers
+pub mod Crossing
 pub mod Dropping
 pub mod Runs

@@ -11,8 +11,10 @@ ghost use Rattle.step_laws.specs.Contents.{DeedsAreTraced, ContentsAreTheOrigins
 ghost use Rattle.step_laws.specs.Idling.{DeedsKeepEnds, RestartsKeepEnds, RunningTransfersHaveSteps, IdleIsExact};
 ghost use Rattle.step_laws.specs.Numbers.{DeedsKeepNumbers, RestartsKeepNumbers};
 ghost use Rattle.step_laws.specs.Forming.{AnswersKeepForm, DeedsKeepForm, RestartsKeepForm};
-ghost use Rattle.step_laws.specs.Families.{AnswersKeepFamilies, RestartsKeepFamilies, DeedsKeepFamilyNumbers, RestartsKeepFamilyNumbers};
+ghost use Rattle.step_laws.specs.Families.{AnswersKeepFamilies, DeedsKeepFamilies, RestartsKeepFamilies, DeedsKeepFamilyNumbers, RestartsKeepFamilyNumbers};
 ghost use Rattle.step_laws.specs.Destinations.{AnswersKeepDestinations, DeedsKeepDestinations, RestartsKeepDestinations};
+ghost use Rattle.step_laws.specs.Transfers.{DeedsKeepTransfers, RestartsKeepTransfers};
+ghost use Rattle.step_laws.specs.Crossing.{StepsKeepCrossed};
 ghost use Rattle.step_laws.specs.Dropping.{DropsAreNamed, AnswersDropWhatIsNamed};
 ghost use Rattle.step_laws.specs.Runs.{RunsDoDeeds, RunsKeepTheNeeded, RunsDropWhatIsNamed};
 
@@ -181,6 +183,11 @@ pub fn answers_keep_families()
     ensures { AnswersKeepFamilies }
 {}
 
+/// So they have after each deed.
+pub fn deeds_keep_families()
+    ensures { DeedsKeepFamilies }
+{}
+
 /// So they have after a restart if they had before.
 pub fn restarts_keep_families()
     ensures { RestartsKeepFamilies }
@@ -210,6 +217,22 @@ pub fn deeds_keep_destinations()
 /// So they do after a restart of a sound world.
 pub fn restarts_keep_destinations()
     ensures { RestartsKeepDestinations }
+{}
+
+/// After each deed that begins in a sound world each standing transfer has a destination that it can go on
+/// to: a writable one only for a resync that shipped nothing, and none of its legs there but the first.
+pub fn deeds_keep_transfers()
+    ensures { DeedsKeepTransfers }
+{}
+
+/// So it has after a restart of a sound world.
+pub fn restarts_keep_transfers()
+    ensures { RestartsKeepTransfers }
+{}
+
+/// After each step of a sound world relationships and transfers fit their volumes and each other.
+pub fn steps_keep_crossed()
+    ensures { StepsKeepCrossed }
 {}
 
 /// A deed that begins in a sound world drops exactly the snapshots that the rules name for it.
