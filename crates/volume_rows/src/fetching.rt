@@ -6,6 +6,7 @@ ghost use Rattle.sm_defs.specs.Volume.{tags_of};
 use crate::table::destination;
 use sm_memdisk::MemDisk;
 use sm_volume::Volume;
+use std::alloc::Global;
 use std::test::Fail;
 use volume_tools::{check_up, fill_of, full, put_and_settle, small};
 
@@ -36,18 +37,27 @@ fn fetched(volume: &mut Volume<MemDisk>, number: u32) -> Result<Option<u8>, Fail
     Ok(fill_of(&block))
 }
 
+fn put_and_fetch(alloc: Global, volume: &mut Volume<MemDisk>) -> Result<Option<u8>, Fail> {
+    put_and_settle(alloc, volume, 7)?;
+    fetched(volume, 1)
+}
+
 #[test]
 fn a_block_is_fetched_by_its_number(rt: HostRuntime) -> Result<(), Fail> {
     let mut volume = small(rt.alloc())?;
-    put_and_settle(rt.alloc(), &mut volume, 7)?;
-    assert_eq!(rt; fetched(&mut volume, 1)?, Some(7));
+    let block = put_and_fetch(rt.alloc(), &mut volume)?;
+    assert_eq!(rt; block, Some(7));
     Ok(())
+}
+
+fn fetch_both(volume: &mut Volume<MemDisk>) -> Result<[Option<u8>; 2], Fail> {
+    Ok([fetched(volume, 1)?, fetched(volume, 2)?])
 }
 
 #[test]
 fn a_block_that_landed_is_fetched(rt: HostRuntime) -> Result<(), Fail> {
     let mut volume = destination(rt.alloc())?;
-    assert_eq!(rt; fetched(&mut volume, 1)?, Some(5));
-    assert_eq!(rt; fetched(&mut volume, 2)?, Some(6));
+    let blocks = fetch_both(&mut volume)?;
+    assert_eq!(rt; blocks, [Some(5), Some(6)]);
     Ok(())
 }

@@ -235,8 +235,11 @@ fn adopt(alloc: Global, volume: &mut Volume<MemDisk>, head: Head) -> Result<(), 
     Ok(())
 }
 
-// A destination that has taken over an image of two blocks.
-pub fn destination(alloc: Global) -> Result<Volume<MemDisk>, Fail> {
+// Lands 5 and 6 in a new destination, which takes over their image.
+fn take_over(alloc: Global, volume: &mut Volume<MemDisk>) -> Result<(), Fail>
+    requires up { volume.old.up ≡ true }
+    requires volume { volume.old.volume ≡ new_volume [] 0 Kind.Dp 0 2 6 }
+{
     let head = Head {
         ident: LANDED,
         name: SnapName::read(alloc, b"landed")?,
@@ -244,26 +247,51 @@ pub fn destination(alloc: Global) -> Result<Volume<MemDisk>, Fail> {
         time: 0,
         made: 1,
     };
+    land(volume, 1, 5)?;
+    land(volume, 2, 6)?;
+    adopt(alloc, volume, head)
+}
+
+// A destination that has taken over an image of two blocks.
+pub fn destination(alloc: Global) -> Result<Volume<MemDisk>, Fail> {
     let mut volume = new_destination(alloc)?;
-    land(&mut volume, 1, 5)?;
-    land(&mut volume, 2, 6)?;
-    adopt(alloc, &mut volume, head)?;
+    take_over(alloc, &mut volume)?;
     Ok(volume)
 }
 
-#[test]
-fn each_call_makes_the_plain_assignment(rt: HostRuntime) -> Result<(), Fail> {
-    let alloc = rt.alloc();
-    let mut volume = destination(alloc)?;
+// The first rows, and the plain volume behind them.
+fn run_first<R: AllocGlobal + Abort>(rt: &R, volume: &mut Volume<MemDisk>) -> Result<Plain, Fail> {
     let landed = Kept {
         ident: LANDED,
         fills: [5, 6],
     };
-    let mut plain = Plain::new(alloc, 9, landed)?;
-    compare(&rt, &mut volume, &plain)?;
-    run_rows(&rt, &mut volume, &mut plain, &BEFORE_OPENING)?;
-    let mut volume = opened(alloc, volume.into_disk())?;
+    let mut plain = Plain::new(rt.alloc(), 9, landed)?;
+    compare(rt, volume, &plain)?;
+    run_rows(rt, volume, &mut plain, &BEFORE_OPENING)?;
     plain.active = plain.stable;
-    compare(&rt, &mut volume, &plain)?;
-    run_rows(&rt, &mut volume, &mut plain, &AFTER_OPENING)
+    Ok(plain)
+}
+
+fn run_last<R: AllocGlobal + Abort>(
+    rt: &R,
+    volume: &mut Volume<MemDisk>,
+    plain: &mut Plain,
+) -> Result<(), Fail> {
+    compare(rt, volume, plain)?;
+    run_rows(rt, volume, plain, &AFTER_OPENING)
+}
+
+// The volume after the first rows, found again on its disk.
+fn opened_after<R: AllocGlobal + Abort>(
+    rt: &R,
+    mut volume: Volume<MemDisk>,
+) -> Result<(Volume<MemDisk>, Plain), Fail> {
+    let plain = run_first(rt, &mut volume)?;
+    Ok((opened(rt.alloc(), volume.into_disk())?, plain))
+}
+
+#[test]
+fn each_call_makes_the_plain_assignment(rt: HostRuntime) -> Result<(), Fail> {
+    let (mut volume, mut plain) = opened_after(&rt, destination(rt.alloc())?)?;
+    run_last(&rt, &mut volume, &mut plain)
 }

@@ -14,28 +14,32 @@ fn stopping(alloc: Global, call: u64, image: Image) -> Result<MemDisk, Fail> {
     Ok(disk)
 }
 
-// A volume of one block on the disk whose stable image holds 7, after a write of 8.
-fn written(alloc: Global, disk: MemDisk) -> Result<Volume<MemDisk>, VolumeFault> {
-    let mut volume = created(alloc, disk)?;
-    put_and_settle(alloc, &mut volume, 7)?;
-    write(&mut volume, 0, 8)?;
-    Ok(volume)
+// The stable image holds 7, and 8 is written.
+fn write_twice(alloc: Global, volume: &mut Volume<MemDisk>) -> Result<(), VolumeFault> {
+    put_and_settle(alloc, volume, 7)?;
+    write(volume, 0, 8)
 }
 
-// The same after a commit of 8 that the disk stopped at this call.
-fn torn(alloc: Global, call: u64, image: Image) -> Result<Volume<MemDisk>, Fail> {
-    let mut volume = written(alloc, stopping(alloc, call, image)?)?;
-    match settle(alloc, &mut volume) {
-        Err(VolumeFault::DiskFault) => Ok(volume),
+// A commit that the disk stops.
+fn fail_to_settle(alloc: Global, volume: &mut Volume<MemDisk>) -> Result<(), Fail> {
+    match settle(alloc, volume) {
+        Err(VolumeFault::DiskFault) => Ok(()),
         _ => Err("the disk did not fail")?,
     }
 }
 
-// The side that a restart answers then, and what the volume's block holds.
-fn restarted(alloc: Global, call: u64, image: Image) -> Result<(Side, Option<u8>), Fail> {
-    let mut volume = torn(alloc, call, image)?;
-    let side = restart(&mut volume)?;
-    Ok((side, byte_of(&mut volume, View::Active)?))
+// The side that a restart answers after it, and what the volume's block holds then.
+fn tear(alloc: Global, volume: &mut Volume<MemDisk>) -> Result<(Side, Option<u8>), Fail> {
+    write_twice(alloc, volume)?;
+    fail_to_settle(alloc, volume)?;
+    let side = restart(volume)?;
+    Ok((side, byte_of(volume, View::Active)?))
+}
+
+// The same on a disk that stops at this call.
+fn torn(alloc: Global, call: u64, image: Image) -> Result<(Side, Option<u8>), Fail> {
+    let mut volume = created(alloc, stopping(alloc, call, image)?)?;
+    tear(alloc, &mut volume)
 }
 
 // Creating takes four calls of the disk, as each commit does, and a write takes one: so the commit of
@@ -50,7 +54,7 @@ fn a_restart_answers_which_state_is_selected(rt: HostRuntime) -> Result<(), Fail
             } else {
                 (Side::Before, Some(7))
             };
-            let given = restarted(rt.alloc(), call, image)?;
+            let given = torn(rt.alloc(), call, image)?;
             assert_eq!(rt; given, wanted, "{image:?} at the call {call}");
         }
     }
