@@ -1,5 +1,5 @@
 -- A list of the needed identities tells of a list's snapshots what the need itself tells.
-use Rattle.std.proofs.Common.{◌≡◌, ◌&&◌, ℕ, ◌==◌, Bool, true, false, cond, List, [], ◌∷◌, map, refl, ap, ap₂, sym, ◌∙◌, inl, inr, eqb-true, eq-eqb}
+use Rattle.std.proofs.Common.{◌≡◌, ◌&&◌, ◌==◌, Bool, true, false, List, [], ◌∷◌, refl, ap, ap₂, ◌∙◌, inl, inr, eqb-true, eq-eqb}
 use Rattle.std.proofs.lemmas.Bool.{and_parts, and_from, or_left, or_right}
 use Rattle.std.proofs.lemmas.Map.Views.{any-filter_same}
 use Rattle.std.specs.List.{list_any, filter}
@@ -7,7 +7,7 @@ use Rattle.sm_base.specs.declared.numbers.Ident.{Ident}
 use Rattle.sm_defs.specs.Words.{Among, same_ident, has_ident}
 use Rattle.sm_defs.specs.Volume.{Snapshot, idents}
 use Rattle.sm_defs.specs.Relationship.{Rule}
-use Rattle.sm_defs.specs.Retention.{retained, keeps, with_kept}
+use Rattle.sm_defs.specs.Retention.{retained}
 
 same_is : (i j : Ident) → same_ident i j ≡ true → i ≡ j
 same_is i j e = let p = and_parts (i.origin == j.origin) (i.seq == j.seq) e in
