@@ -32,7 +32,27 @@ fn told(world: &PlainWorld, alloc: Global, event: &Event) -> Result<Reply, Plain
         Event::VolumeLine { volume } => of_volume(world, alloc, *volume),
         Event::Digest { volume, place } => of_image(world, alloc, *volume, *place),
         Event::RelationLine { relation } => of_relation(world, alloc, *relation),
-        _ => Err(PlainFault::TooGreat),
+        // these are answered before this match, and stand here so that a new event is a compile error
+        Event::CreateVolume { .. }
+        | Event::Write { .. }
+        | Event::Snap { .. }
+        | Event::Unsnap { .. }
+        | Event::CreatePolicy { .. }
+        | Event::AddRule { .. }
+        | Event::Relate { .. }
+        | Event::Initialize { .. }
+        | Event::Update { .. }
+        | Event::Quiesce { .. }
+        | Event::Resume { .. }
+        | Event::Abort { .. }
+        | Event::Break { .. }
+        | Event::Resync { .. }
+        | Event::Delete { .. }
+        | Event::Release { .. }
+        | Event::Clock { .. }
+        | Event::Cp { .. }
+        | Event::Work { .. }
+        | Event::Restart => Err(PlainFault::TooGreat),
     }
 }
 
