@@ -1,8 +1,11 @@
 // What is done so and so often.
 use crate::record::{encode_often, write_often};
-use crate::volume::{Size, commit_often, prepared, remove_often, snapshot_often, write_blocks};
+use crate::volume::{
+    Size, commit_often, empty, prepare, remove_often, rewrite, snapshot_often, write_blocks,
+};
+use sm_memdisk::MemDisk;
 use std::alloc::Global;
-use volume_store::VolumeFault;
+use volume_store::{Store, VolumeFault};
 
 /// What is timed.
 #[derive(Clone, Copy, Debug, PartialEq, Eq)]
@@ -15,6 +18,8 @@ pub enum Deed {
     Snapshot,
     /// A removal of no snapshot, which commits as each removal does.
     Remove,
+    /// The same where all blocks have been written again since the snapshots.
+    Rewritten,
     /// The encoding of the root.
     Encode,
     /// What a commit has the disk do.
@@ -37,6 +42,7 @@ pub fn deed_of(word: &str) -> Option<Deed> {
         "commit" => Some(Deed::Commit),
         "snapshot" => Some(Deed::Snapshot),
         "remove" => Some(Deed::Remove),
+        "rewritten" => Some(Deed::Rewritten),
         "encode" => Some(Deed::Encode),
         "disk" => Some(Deed::Disk),
         _ => None,
@@ -49,12 +55,30 @@ pub fn perform(alloc: Global, plan: &Plan) -> Result<usize, VolumeFault> {
     if plan.deed == Deed::Disk {
         return write_often(alloc, plan.size, plan.snapshots, plan.count);
     }
-    let mut volume = prepared(alloc, plan.size, plan.snapshots)?;
+    match empty(alloc, plan.size) {
+        Ok(volume) => {
+            let mut volume = volume;
+            perform_on(alloc, &mut volume, plan)
+        }
+        Err(fault) => Err(fault),
+    }
+}
+
+fn perform_on(
+    alloc: Global,
+    volume: &mut Store<MemDisk>,
+    plan: &Plan,
+) -> Result<usize, VolumeFault> {
+    prepare(alloc, volume, plan.size, plan.snapshots)?;
     match plan.deed {
-        Deed::Write => write_blocks(&mut volume, 0, plan.count)?,
-        Deed::Commit => commit_often(alloc, &mut volume, plan.count)?,
-        Deed::Snapshot => snapshot_often(alloc, &mut volume, plan.count)?,
-        Deed::Remove => remove_often(alloc, &mut volume, plan.count)?,
+        Deed::Write => write_blocks(volume, 0, plan.count)?,
+        Deed::Commit => commit_often(alloc, volume, plan.count)?,
+        Deed::Snapshot => snapshot_often(alloc, volume, plan.count)?,
+        Deed::Remove => remove_often(alloc, volume, plan.count)?,
+        Deed::Rewritten => {
+            rewrite(alloc, volume, plan.size)?;
+            remove_often(alloc, volume, plan.count)?;
+        }
         Deed::Encode | Deed::Disk => return encode_often(alloc, volume, plan.count),
     }
     Ok(volume.used() as usize)

@@ -56,7 +56,7 @@ fn main(rt: HostRuntime) -> io::Result<()> {
         let text = match plan_of(&words) {
             Some(plan) => report(rt.alloc(), &plan)?,
             None => format!(in rt.alloc();
-                "words: write|commit|snapshot|remove|encode|disk SNAPSHOTS CALLS"
+                "words: write|commit|snapshot|remove|rewritten|encode|disk SNAPSHOTS CALLS"
             )?,
         };
         return println!(rt; "{text}");
@@ -66,6 +66,7 @@ fn main(rt: HostRuntime) -> io::Result<()> {
         Deed::Commit,
         Deed::Snapshot,
         Deed::Remove,
+        Deed::Rewritten,
         Deed::Encode,
         Deed::Disk,
     ] {

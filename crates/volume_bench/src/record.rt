@@ -1,53 +1,24 @@
 // The root's record, without a volume.
-ghost use Rattle.std.specs.Prelude.{◌≡◌, ◌≤◌, ◌<◌, ◌^◌, IfOk, length};
-ghost use Rattle.sm_root.specs.Condition.{IsRoot};
-ghost use Rattle.sm_disk.specs.Disk.{Steps};
-
 use crate::volume::Size;
 use sm_base::{Failed, NoMemory};
 use sm_disk::Disk;
 use sm_memdisk::MemDisk;
-use sm_root::{Root, RootFault, decode, encode};
-use sm_slots::{RecordFault, SLOTS_END, Slots, slot_start_of};
+use sm_root::encode;
+use sm_slots::{SLOTS_END, slot_start_of};
 use std::alloc::Global;
 use volume_store::{Store, VolumeFault};
-
-// The root that a disk's selected record spells.
-fn root_on(alloc: Global, disk: &mut MemDisk) -> Result<Root, VolumeFault>
-    ensures { IfOk result (λ root. IsRoot root) }
-{
-    if disk.len() < SLOTS_END {
-        return Err(VolumeFault::BadRoot { at: 0 });
-    }
-    let slots = match Slots::open(disk) {
-        Ok(slots) => slots,
-        Err(_) => return Err(VolumeFault::DiskFault),
-    };
-    let bytes = match slots.record(alloc, disk) {
-        Ok(Some(bytes)) => bytes,
-        Ok(None) => return Err(VolumeFault::BadRoot { at: 0 }),
-        Err(RecordFault::DiskFault) => return Err(VolumeFault::DiskFault),
-        Err(RecordFault::NoMemory) => return Err(VolumeFault::NoMemory),
-        Err(RecordFault::BadLength) => return Err(VolumeFault::BadRoot { at: 8 }),
-    };
-    match decode(alloc, &bytes) {
-        Ok(root) => Ok(root),
-        Err(RootFault::Bad { at }) => Err(VolumeFault::BadRoot { at }),
-        Err(RootFault::NoMemory) => Err(VolumeFault::NoMemory),
-    }
-}
 
 /// Encodes the volume's root so often. The answer is the length of its record.
 pub fn encode_often(
     alloc: Global,
-    volume: Store<MemDisk>,
+    volume: &Store<MemDisk>,
     count: u32,
 ) -> Result<usize, VolumeFault> {
-    let mut disk = volume.into_disk();
-    let root = root_on(alloc, &mut disk)?;
+    volume.told();
+    let root = volume.root();
     let mut len = 0;
     for _ in 0..count {
-        len = encode(alloc, &root)?.len();
+        len = encode(alloc, root)?.len();
     }
     Ok(len)
 }

@@ -33,8 +33,8 @@ impl Size {
     }
 }
 
-// A volume of holes.
-fn empty(alloc: Global, size: Size) -> Result<Store<MemDisk>, VolumeFault> {
+/// A volume of holes.
+pub fn empty(alloc: Global, size: Size) -> Result<Store<MemDisk>, VolumeFault> {
     let disk = MemDisk::new(alloc, size.disk_len())?;
     let made = match size {
         Size::Small => Store::create(alloc, disk, VolNo(1), Kind::Rw, 4, 16),
@@ -113,16 +113,25 @@ fn ident_of(number: u32) -> Ident {
     }
 }
 
-/// A volume with all its blocks written, and with so many snapshots, between which a block is written.
-pub fn prepared(alloc: Global, size: Size, snapshots: u32) -> Result<Store<MemDisk>, VolumeFault> {
-    let mut volume = empty(alloc, size)?;
-    write_blocks(&mut volume, 0, size.logical())?;
+/// Writes all blocks, and takes so many snapshots, between which a block is written.
+pub fn prepare(
+    alloc: Global,
+    volume: &mut Store<MemDisk>,
+    size: Size,
+    snapshots: u32,
+) -> Result<(), VolumeFault> {
+    write_blocks(volume, 0, size.logical())?;
     for number in 0..snapshots {
-        write_blocks(&mut volume, number, 1)?;
-        take_snapshot(alloc, &mut volume, number)?;
+        write_blocks(volume, number, 1)?;
+        take_snapshot(alloc, volume, number)?;
     }
-    settle(alloc, &mut volume)?;
-    Ok(volume)
+    settle(alloc, volume)
+}
+
+/// Writes all blocks again, so that the stable map differs from each snapshot's everywhere.
+pub fn rewrite(alloc: Global, volume: &mut Store<MemDisk>, size: Size) -> Result<(), VolumeFault> {
+    write_blocks(volume, 0, size.logical())?;
+    settle(alloc, volume)
 }
 
 /// Makes consistency points, before each of which four blocks are written.

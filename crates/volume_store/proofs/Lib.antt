@@ -1,6 +1,7 @@
 pub mod MapLemmas
 pub mod PutLemmas
 pub mod MarkLemmas
+pub mod DifferenceLemmas
 pub mod Framed
 pub mod Shown
 pub mod Sound

@@ -1,5 +1,5 @@
 -- The marks of the numbers that each part of a volume uses.
-use Rattle.std.proofs.Common.{◌≡◌, ◌≢◌, inl, inr, ℕ, zero, suc, ◌+◌, ◌<◌, ◌≤◌, List, [], ◌∷◌, length, get_or, set, map, replicate, Bool, true, false, not, ◌||◌, ◌&&◌, refl, sym, subst, ◌∙◌, ap, ap₂, arith}
+use Rattle.std.proofs.Common.{◌≡◌, ◌≢◌, inl, inr, ℕ, zero, suc, ◌+◌, ◌<◌, ◌≤◌, List, [], ◌∷◌, length, get_or, set, map, replicate, Bool, true, false, ◌||◌, refl, sym, subst, ◌∙◌, ap, ap₂, arith}
 use Rattle.std.proofs.lemmas.Bool.{cases_eq}
 use Rattle.std.proofs.lemmas.List.{length-set, length-replicate, get_or-set_same, get_or-set_other}
 use Rattle.sm_bits.specs.Places.{has, union_of}
@@ -100,14 +100,6 @@ none_marked physical new is = record {
     none zero k = refl
     none (suc m) zero = refl
     none (suc m) (suc k) = none m k
-
--- the numbers of one map are taken out, and those of another come
-pub marks_only : (old mid new before there : Bool) → mid ≡ (old && not before) → new ≡ (mid || there) → old ≡ before → new ≡ there
-marks_only old mid new before there out more was = more ∙ ap (λ b. b || there) (out ∙ ap (λ b. b && not before) was ∙ none before)
-  where
-    none : (b : Bool) → (b && not b) ≡ false
-    none true = refl
-    none false = refl
 
 -- equal marks of an equal root
 pub marks_moved : (marks marks' : Marks) (root root' : Root) (active active' : List ℕ) → marks ≡ marks' → root ≡ root' → active ≡ active' → AreMarks marks'.held marks'.settled marks'.live root' active' → AreMarks marks.held marks.settled marks.live root active

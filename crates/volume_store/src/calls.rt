@@ -140,8 +140,11 @@ impl<D: Disk> Store<D> {
         if count_with_new(drops, snapshots, head.ident) > MOST_SNAPSHOTS {
             return Err(VolumeFault::SnapFull);
         }
-        let list = with_new(alloc, drops, snapshots, &head, &map)?;
-        let next = self.state.adopted(alloc, head, map, family, list, drops)?;
+        let stable = BlockMap::from_vec(map)?;
+        let list = with_new(alloc, drops, snapshots, &head, &stable)?;
+        let next = self
+            .state
+            .adopted(alloc, head, stable, family, list, drops)?;
         self.commit(alloc, next)
     }
 }
@@ -195,20 +198,19 @@ fn count_with_new(drops: &[Ident], snapshots: &[RootSnapshot], ident: Ident) -> 
     }
 }
 
-// The snapshots that stay, and the new one where it does.
+// The snapshots that stay, and the new one where it does. It shares the map.
 fn with_new(
     alloc: Global,
     drops: &[Ident],
     snapshots: &[RootSnapshot],
     head: &Head,
-    map: &[u32],
+    map: &BlockMap,
 ) -> Result<Vec<RootSnapshot>, NoMemory>
     ensures { IfOk result (λ list. list.items ≡ staying drops.now (snapshots.now ++ snapshot_of head.now map.now ∷ [])) }
 {
     let mut list = staying_of(alloc, drops, snapshots)?;
     if !is_among(drops, head.ident) {
-        let map = BlockMap::from_vec(Vec::from_slice(alloc, map)?)?;
-        list.push(head.copy(alloc)?.with_map(map))?;
+        list.push(head.copy(alloc)?.with_map(map.copy()?))?;
     }
     Ok(list)
 }

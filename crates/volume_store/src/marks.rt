@@ -1,11 +1,11 @@
 // Which physical numbers the maps of a root use.
-ghost use Rattle.std.specs.Prelude.{◌≡◌, ◌≢◌, ◌⊎◌, [], ◌∷◌, ℕ, ◌+◌, ◌^◌, ◌++◌, ◌<◌, ◌≤◌, ◌||◌, ◌&&◌, ◌==◌, not, true, false, length, map, slice_index, slice_set, IfOk};
+ghost use Rattle.std.specs.Prelude.{◌≡◌, ◌≢◌, ◌⊎◌, [], ◌∷◌, ℕ, ◌+◌, ◌^◌, ◌++◌, ◌<◌, ◌≤◌, ◌||◌, ◌&&◌, ◌==◌, not, true, false, length, map, take, slice_index, slice_set, IfOk};
 ghost use Rattle.sm_bits.specs.Places.{has, union_of};
 ghost use Rattle.sm_defs.specs.Image.{stands};
 ghost use Rattle.sm_defs.specs.Limits.{most_physical};
 ghost use Rattle.sm_defs.specs.Words.{Among};
 ghost use Rattle.sm_root.specs.Condition.{IsRoot, map_of};
-ghost use Rattle.volume_store.specs.Maps.{kept_maps, held_maps, AreMapsOf, AreUsed, AreMarks};
+ghost use Rattle.volume_store.specs.Maps.{kept_maps, held_maps, OnePlace, AreMapsOf, AreUsed, AreMarks};
 
 use sm_base::NoMemory;
 use sm_bits::BitMap;
@@ -30,8 +30,8 @@ impl Marks {
         requires good { IsRoot root.now }
         ensures { IfOk result (λ marks. AreMarks marks.held marks.settled marks.live root.now root.now.stable) }
     {
-        let held = held_numbers(alloc, root)?;
         let live = map_numbers(alloc, root.physical, root.stable.as_slice())?;
+        let held = held_numbers(alloc, root, &live)?;
         Ok(Marks {
             held,
             settled: live.copy(alloc)?,
@@ -155,20 +155,6 @@ fn take_all(set: &mut BitMap, map: &[u32])
     }
 }
 
-// Marks the numbers of a map in place of those of another.
-pub(crate) fn remark(set: &mut BitMap, before: &[u32], map: &[u32])
-    requires before { (i : ℕ) → slice_index before.now i < length set.old }
-    requires inside { (i : ℕ) → slice_index map.now i < length set.old }
-    requires hole { has set.old 0 ≡ true }
-    requires marked { (n : ℕ) → 1 ≤ n → n < length set.old → has set.old n ≡ stands n before.now }
-    ensures long { length set.new ≡ length set.old }
-    ensures hole { has set.new 0 ≡ true }
-    ensures each { (n : ℕ) → 1 ≤ n → n < length set.old → has set.new n ≡ stands n map.now }
-{
-    take_all(set, before);
-    mark(set, map, &[]);
-}
-
 // Adds a number. One that is there is only looked at: a store would hold up the next number of its word.
 fn put(set: &mut BitMap, number: u32)
     requires { number < length set.old }
@@ -240,6 +226,87 @@ pub(crate) fn mark(set: &mut BitMap, map: &[u32], beside: &[u32])
     }
 }
 
+// Marks the numbers of a part of a map in place of those at the same places of another map.
+fn remark_part(set: &mut BitMap, before: &[u32], part: &[u32])
+    requires before { (i : ℕ) → slice_index before.now i < length set.old }
+    requires inside { (i : ℕ) → slice_index part.now i < length set.old }
+    requires marked { (n : ℕ) → 1 ≤ n → stands n before.now ≡ true → has set.old n ≡ true }
+    requires hole { has set.old 0 ≡ true }
+    ensures long { length set.new ≡ length set.old }
+    ensures hole { has set.new 0 ≡ true }
+    ensures each { (n : ℕ) → 1 ≤ n → has set.new n ≡ ((has set.old n && not (stands n before.now)) || stands n part.now) }
+{
+    if part != before {
+        take_all(set, before);
+        put_all(set, part);
+    }
+}
+
+// Marks the numbers of a map in place of those of another. Only where the maps differ is the set looked at.
+pub(crate) fn remark(set: &mut BitMap, before: &[u32], map: &[u32])
+    requires long { length before.now ≡ length map.now }
+    requires before { (i : ℕ) → slice_index before.now i < length set.old }
+    requires inside { (i : ℕ) → slice_index map.now i < length set.old }
+    requires place { OnePlace (before.now ∷ map.now ∷ []) }
+    requires marked { (n : ℕ) → 1 ≤ n → n < length set.old → has set.old n ≡ stands n before.now }
+    requires hole { has set.old 0 ≡ true }
+    ensures long { length set.new ≡ length set.old }
+    ensures hole { has set.new 0 ≡ true }
+    ensures each { (n : ℕ) → 1 ≤ n → n < length set.old → has set.new n ≡ stands n map.now }
+{
+    let mut at = 0;
+    while at < map.len() {
+        let to = map.len().min(at + RUN);
+        remark_part(set, &before[at..to], &map[at..to]);
+        at = to;
+    }
+}
+
+// Whether two maps differ at few places. It tells only which way of marking is quicker.
+fn are_alike(one: &[u32], other: &[u32]) -> bool {
+    let differing = one
+        .chunks(RUN)
+        .zip(other.chunks(RUN))
+        .filter(|(part, beside)| part != beside)
+        .count();
+    differing <= one.len() / (2 * RUN)
+}
+
+// The numbers of a snapshot's map, where those of the stable map are marked already.
+fn snapshot_numbers(
+    alloc: Global,
+    root: &Root,
+    settled: &BitMap,
+    map: &[u32],
+) -> Result<BitMap, NoMemory>
+    requires maps { AreMapsOf root.now.logical root.now.physical (kept_maps root.now) }
+    requires good { IsRoot root.now }
+    requires settled { AreUsed settled.now root.now.physical (root.now.stable ∷ []) }
+    requires among { Among (held_maps root.now) map.now }
+    ensures { IfOk result (λ set. AreUsed set root.now.physical (map.now ∷ [])) }
+{
+    let stable = root.stable.as_slice();
+    if !are_alike(stable, map) {
+        return map_numbers(alloc, root.physical, map);
+    }
+    let mut set = settled.copy(alloc)?;
+    remark(&mut set, stable, map);
+    Ok(set)
+}
+
+// The numbers of the first snapshot, if there is one.
+fn first_numbers(alloc: Global, root: &Root, settled: &BitMap) -> Result<BitMap, NoMemory>
+    requires maps { AreMapsOf root.now.logical root.now.physical (kept_maps root.now) }
+    requires good { IsRoot root.now }
+    requires settled { AreUsed settled.now root.now.physical (root.now.stable ∷ []) }
+    ensures { IfOk result (λ set. AreUsed set root.now.physical (map map_of (take 1 root.now.snapshots))) }
+{
+    match root.snapshots.as_slice() {
+        [] => no_numbers(alloc, root.physical),
+        [first, ..] => snapshot_numbers(alloc, root, settled, first.map.as_slice()),
+    }
+}
+
 // The map of the last of these snapshots, or an empty one.
 pub(crate) fn last_map(snapshots: &[RootSnapshot]) -> &[u32]
     ensures { (result.now ≡ []) ⊎ Among (map map_of snapshots.now) result.now }
@@ -250,15 +317,16 @@ pub(crate) fn last_map(snapshots: &[RootSnapshot]) -> &[u32]
     }
 }
 
-// The numbers that the snapshots use.
-pub(crate) fn held_numbers(alloc: Global, root: &Root) -> Result<BitMap, NoMemory>
+// The numbers that the snapshots use, where those of the stable map are marked already.
+pub(crate) fn held_numbers(alloc: Global, root: &Root, settled: &BitMap) -> Result<BitMap, NoMemory>
     requires maps { AreMapsOf root.now.logical root.now.physical (kept_maps root.now) }
     requires good { IsRoot root.now }
+    requires settled { AreUsed settled.now root.now.physical (root.now.stable ∷ []) }
     ensures { IfOk result (λ set. AreUsed set root.now.physical (held_maps root.now)) }
 {
-    let mut set = no_numbers(alloc, root.physical)?;
+    let mut set = first_numbers(alloc, root, settled)?;
     let snapshots = root.snapshots.as_slice();
-    for at in 0..snapshots.len() {
+    for at in 1..snapshots.len() {
         mark(
             &mut set,
             snapshots[at].map.as_slice(),

@@ -134,7 +134,7 @@ impl State {
     {
         let list = staying_of(alloc, drops, self.root.snapshots.as_slice())?;
         let root = self.root_with(self.root.stable.copy()?, list);
-        let held = held_numbers(alloc, &root)?;
+        let held = held_numbers(alloc, &root, &self.marks.settled)?;
         let marks = self.marks.with_held(alloc, held)?;
         self.following(alloc, root, self.active_copy(alloc)?, marks)
     }
@@ -162,20 +162,19 @@ impl State {
         &self,
         alloc: Global,
         head: Head,
-        map: Vec<u32>,
+        map: BlockMap,
         family: u64,
         list: Vec<RootSnapshot>,
         drops: &[Ident],
     ) -> Result<State, NoMemory>
         requires new { (s : RootSnapshot) → Among self.now.root.snapshots s → ¬ (s.ident ≡ head.ident) }
-        requires list { list.items ≡ staying drops.now (self.now.root.snapshots ++ snapshot_of head map.items ∷ []) }
+        requires list { list.items ≡ staying drops.now (self.now.root.snapshots ++ snapshot_of head map ∷ []) }
         requires room { length list.items ≤ most_snapshots }
-        requires fits { AreMapsOf self.now.root.logical self.now.root.physical (map.items ∷ map_maps (staying drops.now self.now.root.snapshots)) }
-        ensures { IfOk result (λ next. next ≡ adopted self.now (snapshot_of head map.items) family drops.now) }
+        requires fits { AreMapsOf self.now.root.logical self.now.root.physical (map ∷ map_maps (staying drops.now self.now.root.snapshots)) }
+        ensures { IfOk result (λ next. next ≡ adopted self.now (snapshot_of head map) family drops.now) }
     {
         head.told();
-        let active = Vec::from_slice(alloc, &map)?;
-        let stable = BlockMap::from_vec(map)?;
+        let active = map.to_vec(alloc)?;
         let root = Root {
             number: self.root.number,
             kind: self.root.kind,
@@ -183,7 +182,7 @@ impl State {
             logical: self.root.logical,
             physical: self.root.physical,
             next: self.root.next,
-            stable,
+            stable: map,
             snapshots: Snapshots::from_vec(list),
         };
         let marks = self.adopted_marks(alloc, &root, drops)?;

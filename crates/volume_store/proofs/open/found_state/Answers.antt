@@ -1,4 +1,4 @@
-use Rattle.std.proofs.Common.{refl, ◌∙◌}
+use Rattle.std.proofs.Common.{refl}
 use Rattle.volume_store.proofs.Sound.{maps_found, moved_maps}
 use Rattle.volume_store.proofs.open.found_state.Goals as goal
 
