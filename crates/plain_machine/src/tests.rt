@@ -1,13 +1,18 @@
 use crate::{
-    PlainBases, PlainBlock, PlainSnapshot, PlainSource, candidates, common, is_pruned,
-    keep_reached, legs, mirror_cost, missing_places, missing_tags, pruned, retained, vault_cost,
-    vault_landing,
+    PlainBases, PlainBlock, PlainSnapshot, PlainSource, common, keep_reached, legs, mirror_cost,
+    missing_places, missing_tags, pruned, retained, vault_cost, vault_landing,
 };
 use sm_base::{Ident, Kind, Label, Path1, PolicyKind, SnapName};
 use sm_model::{WorldPolicy, WorldRule};
 use std::alloc::Global;
 use std::process::Abort;
 use std::test::Fail;
+
+/// A snapshot: the number in its identity, its label or nothing, its maker, and its blocks' numbers.
+type Given = (u64, &'static [u8], u32, &'static [u32]);
+
+/// A rule: its label, how many are kept, and whether for good.
+type Rule = (&'static [u8], u32, bool);
 
 fn ident(seq: u64) -> Ident {
     Ident { origin: 0, seq }
@@ -17,7 +22,7 @@ fn ident(seq: u64) -> Ident {
 fn image(alloc: Global, tags: &[u32]) -> Result<Vec<PlainBlock>, Fail> {
     let mut blocks = Vec::new(alloc);
     for tag in tags {
-        let bytes = Vec::from_slice(alloc, &[(*tag % 256) as u8])?;
+        let bytes = vec![in alloc; (*tag % 256) as u8; 1]?;
         blocks.push(PlainBlock { tag: *tag, bytes })?;
     }
     Ok(blocks)
@@ -39,26 +44,21 @@ fn label(alloc: Global, text: &[u8]) -> Result<Option<Label>, Fail> {
     Ok(Some(Label::read(alloc, text)?))
 }
 
-// A label for each letter.
-fn labels(alloc: Global, letters: &[u8]) -> Result<Vec<Option<Label>>, Fail> {
+fn labels(alloc: Global, texts: &[&'static [u8]]) -> Result<Vec<Option<Label>>, Fail> {
     let mut all = Vec::new(alloc);
-    for letter in letters {
-        all.push(label(alloc, &[*letter])?)?;
+    for text in texts {
+        all.push(label(alloc, *text)?)?;
     }
     Ok(all)
 }
 
-// A snapshot of this number in its identity, with a label, a maker, and blocks at these numbers.
-fn snapshot(
-    alloc: Global,
-    seq: u64,
-    text: &[u8],
-    maker: u32,
-    tags: &[u32],
-) -> Result<PlainSnapshot, Fail> {
+const SNAPSHOT_NAME: &[u8] = b"s";
+
+fn snapshot(alloc: Global, given: Given) -> Result<PlainSnapshot, Fail> {
+    let (seq, text, maker, tags) = given;
     Ok(PlainSnapshot {
         ident: ident(seq),
-        name: SnapName::read(alloc, b"s")?,
+        name: SnapName::read(alloc, SNAPSHOT_NAME)?,
         label: label(alloc, text)?,
         time: 0,
         maker,
@@ -66,11 +66,19 @@ fn snapshot(
     })
 }
 
+fn snapshots(alloc: Global, list: &[Given]) -> Result<Vec<PlainSnapshot>, Fail> {
+    let mut all = Vec::new(alloc);
+    for given in list {
+        all.push(snapshot(alloc, *given)?)?;
+    }
+    Ok(all)
+}
+
 // Snapshots of these numbers, without labels or blocks.
 fn list(alloc: Global, seqs: &[u64]) -> Result<Vec<PlainSnapshot>, Fail> {
     let mut all = Vec::new(alloc);
     for seq in seqs {
-        all.push(snapshot(alloc, *seq, b"", 0, &[])?)?;
+        all.push(snapshot(alloc, (*seq, b"", 0, &[]))?)?;
     }
     Ok(all)
 }
@@ -91,251 +99,465 @@ fn numbers_of(alloc: Global, idents: &[Ident]) -> Result<Vec<u64>, Fail> {
     Ok(seqs)
 }
 
-fn rule(alloc: Global, text: &[u8], keep: u32, preserve: bool) -> Result<WorldRule, Fail> {
-    Ok(WorldRule {
-        label: Label::read(alloc, text)?,
-        keep,
-        preserve,
+fn rules(alloc: Global, list: &[Rule]) -> Result<Vec<WorldRule>, Fail> {
+    let mut rules = Vec::new(alloc);
+    for (text, keep, preserve) in list {
+        rules.push(WorldRule {
+            label: Label::read(alloc, *text)?,
+            keep: *keep,
+            preserve: *preserve,
+        })?;
+    }
+    Ok(rules)
+}
+
+const POLICY_NAME: &[u8] = b"p";
+
+fn policy(alloc: Global, kind: PolicyKind, list: &[Rule]) -> Result<WorldPolicy, Fail> {
+    Ok(WorldPolicy {
+        name: Path1::read(alloc, POLICY_NAME)?,
+        kind,
+        rules: rules(alloc, list)?,
     })
 }
 
-fn policy(alloc: Global, kind: PolicyKind, text: &[u8]) -> Result<WorldPolicy, Fail> {
-    let mut rules = Vec::new(alloc);
-    if !text.is_empty() {
-        rules.push(rule(alloc, text, 1, false)?)?;
-    }
-    Ok(WorldPolicy {
-        name: Path1::read(alloc, b"p")?,
-        kind,
-        rules,
-    })
+struct Mirror {
+    leg: &'static [u32],
+    /// Two snapshots of the destination.
+    there: &'static [Given],
+    missing: &'static [u32],
 }
+
+const MIRRORS: &[Mirror] = &[
+    Mirror {
+        leg: &[3, 0, 5],
+        there: &[(2, b"", 0, &[3]), (4, b"", 0, &[])],
+        missing: &[5],
+    },
+    Mirror {
+        leg: &[5, 3, 5, 0, 4],
+        there: &[(2, b"", 0, &[]), (4, b"", 0, &[4])],
+        missing: &[3, 5],
+    },
+    Mirror {
+        leg: &[3, 0, 5],
+        there: &[(2, b"", 0, &[5]), (4, b"", 0, &[0, 3])],
+        missing: &[],
+    },
+    Mirror {
+        leg: &[0, 0],
+        there: &[(2, b"", 0, &[]), (4, b"", 0, &[])],
+        missing: &[],
+    },
+];
 
 #[test]
 fn a_mirror_sends_the_blocks_that_no_snapshot_has(rt: HostRuntime) -> Result<(), Fail> {
-    mirror_row(&rt, &[3, 0, 5], &[3], &[], &[5])?;
-    mirror_row(&rt, &[5, 3, 5, 0, 4], &[], &[4], &[3, 5])?;
-    mirror_row(&rt, &[3, 0, 5], &[5], &[0, 3], &[])?;
-    mirror_row(&rt, &[0, 0], &[], &[], &[])
-}
-
-// A leg, two snapshots of the destination, and what is missing.
-fn mirror_row(
-    rt: &(impl Abort + AllocGlobal),
-    leg: &[u32],
-    first: &[u32],
-    second: &[u32],
-    missing: &[u32],
-) -> Result<(), Fail> {
-    let alloc = rt.alloc();
-    let mut there = Vec::new(alloc);
-    there.push(snapshot(alloc, 2, b"", 0, first)?)?;
-    there.push(snapshot(alloc, 4, b"", 0, second)?)?;
-    let leg = image(alloc, leg)?;
-    let tags = missing_tags(alloc, &leg, &there)?;
-    assert_eq!(rt; tags.as_slice(), missing);
-    assert_eq!(rt; mirror_cost(alloc, &leg, &there)?, missing.len());
+    for row in MIRRORS {
+        mirror_row(&rt, row)?;
+    }
     Ok(())
 }
+
+fn mirror_row(rt: &(impl Abort + AllocGlobal), row: &Mirror) -> Result<(), Fail> {
+    let alloc = rt.alloc();
+    let leg = image(alloc, row.leg)?;
+    let there = snapshots(alloc, row.there)?;
+    let tags = missing_tags(alloc, &leg, &there)?;
+    assert_eq!(rt; tags.as_slice(), row.missing);
+    assert_eq!(rt; mirror_cost(alloc, &leg, &there)?, row.missing.len());
+    Ok(())
+}
+
+struct Landing {
+    leg: &'static [u32],
+    /// The base on both sides.
+    at_source: &'static [u32],
+    at_destination: &'static [u32],
+    free: &'static [u32],
+    /// The missing places.
+    places: &'static [usize],
+    /// The numbers of what lands.
+    landed: &'static [u32],
+}
+
+const LANDINGS: &[Landing] = &[
+    Landing {
+        leg: &[3, 0, 5],
+        at_source: &[3, 0, 4],
+        at_destination: &[1, 0, 2],
+        free: &[3, 4],
+        places: &[2],
+        landed: &[1, 0, 3],
+    },
+    Landing {
+        leg: &[0, 0, 5],
+        at_source: &[3, 0, 5],
+        at_destination: &[1, 0, 2],
+        free: &[3],
+        places: &[],
+        landed: &[0, 0, 2],
+    },
+    Landing {
+        leg: &[3, 0, 5],
+        at_source: &[],
+        at_destination: &[],
+        free: &[2, 7, 8],
+        places: &[0, 2],
+        landed: &[2, 0, 7],
+    },
+    Landing {
+        leg: &[3, 5, 3],
+        at_source: &[5, 5, 5],
+        at_destination: &[1, 1, 1],
+        free: &[2, 4, 6],
+        places: &[0, 2],
+        landed: &[2, 1, 4],
+    },
+];
 
 #[test]
 fn a_vault_lands_missing_blocks_at_free_numbers(rt: HostRuntime) -> Result<(), Fail> {
-    vault_row(
-        &rt,
-        &[3, 0, 5],
-        (&[3, 0, 4], &[1, 0, 2]),
-        &[3, 4],
-        &[2],
-        &[1, 0, 3],
-    )?;
-    vault_row(
-        &rt,
-        &[0, 0, 5],
-        (&[3, 0, 5], &[1, 0, 2]),
-        &[3],
-        &[],
-        &[0, 0, 2],
-    )?;
-    vault_row(&rt, &[3, 0, 5], (&[], &[]), &[2, 7, 8], &[0, 2], &[2, 0, 7])?;
-    vault_row(
-        &rt,
-        &[3, 5, 3],
-        (&[5, 5, 5], &[1, 1, 1]),
-        &[2, 4, 6],
-        &[0, 2],
-        &[2, 1, 4],
-    )
-}
-
-// A leg, the base on both sides, free numbers, the missing places, and the numbers of what lands.
-fn vault_row(
-    rt: &(impl Abort + AllocGlobal),
-    leg: &[u32],
-    bases: (&[u32], &[u32]),
-    free: &[u32],
-    places: &[usize],
-    landed: &[u32],
-) -> Result<(), Fail> {
-    let alloc = rt.alloc();
-    let leg = image(alloc, leg)?;
-    let (source, destination) = bases;
-    let bases = PlainBases {
-        at_source: image(alloc, source)?,
-        at_destination: image(alloc, destination)?,
-    };
-    let missing = missing_places(alloc, &leg, &bases)?;
-    assert_eq!(rt; missing.as_slice(), places);
-    assert_eq!(rt; vault_cost(alloc, &leg, &bases)?, places.len());
-    let tags = tags_of(alloc, &vault_landing(alloc, &leg, &bases, free)?)?;
-    assert_eq!(rt; tags.as_slice(), landed);
+    for row in LANDINGS {
+        landing_row(&rt, row)?;
+    }
     Ok(())
 }
+
+fn bases_of(alloc: Global, row: &Landing) -> Result<PlainBases, Fail> {
+    Ok(PlainBases {
+        at_source: image(alloc, row.at_source)?,
+        at_destination: image(alloc, row.at_destination)?,
+    })
+}
+
+fn landing_row(rt: &(impl Abort + AllocGlobal), row: &Landing) -> Result<(), Fail> {
+    let alloc = rt.alloc();
+    let leg = image(alloc, row.leg)?;
+    let bases = bases_of(alloc, row)?;
+    let missing = missing_places(alloc, &leg, &bases)?;
+    assert_eq!(rt; missing.as_slice(), row.places);
+    assert_eq!(rt; vault_cost(alloc, &leg, &bases)?, row.places.len());
+    let tags = tags_of(alloc, &vault_landing(alloc, &leg, &bases, row.free)?)?;
+    assert_eq!(rt; tags.as_slice(), row.landed);
+    Ok(())
+}
+
+struct Retention {
+    rules: &'static [Rule],
+    needed: u64,
+    stay: &'static [u64],
+}
+
+const RETENTIONS: &[Retention] = &[
+    Retention {
+        rules: &[(b"d", 1, false)],
+        needed: 2,
+        stay: &[2, 8],
+    },
+    Retention {
+        rules: &[(b"d", 2, false)],
+        needed: 6,
+        stay: &[6, 8],
+    },
+    Retention {
+        rules: &[(b"d", 1, true)],
+        needed: 0,
+        stay: &[2, 6, 8],
+    },
+    Retention {
+        rules: &[(b"e", 9, false)],
+        needed: 4,
+        stay: &[4],
+    },
+    Retention {
+        rules: &[(b"d", 9, false)],
+        needed: 0,
+        stay: &[2, 6, 8],
+    },
+];
+
+/// Four snapshots labelled d, not at all, d and d.
+const KEPT_BY_LABEL: &[Given] = &[
+    (2, b"d", 0, &[]),
+    (4, b"", 0, &[]),
+    (6, b"d", 0, &[]),
+    (8, b"d", 0, &[]),
+];
 
 #[test]
 fn a_vault_keeps_by_rules_and_needs(rt: HostRuntime) -> Result<(), Fail> {
-    let alloc = rt.alloc();
-    retention_row(&rt, rule(alloc, b"d", 1, false)?, 2, &[2, 8])?;
-    retention_row(&rt, rule(alloc, b"d", 2, false)?, 6, &[6, 8])?;
-    retention_row(&rt, rule(alloc, b"d", 1, true)?, 0, &[2, 6, 8])?;
-    retention_row(&rt, rule(alloc, b"e", 9, false)?, 4, &[4])?;
-    retention_row(&rt, rule(alloc, b"d", 9, false)?, 0, &[2, 6, 8])
-}
-
-// A rule, what is needed, and which stay of four snapshots labelled d, not at all, d and d.
-fn retention_row(
-    rt: &(impl Abort + AllocGlobal),
-    rule: WorldRule,
-    needed: u64,
-    stay: &[u64],
-) -> Result<(), Fail> {
-    let alloc = rt.alloc();
-    let mut list = Vec::new(alloc);
-    list.push(snapshot(alloc, 2, b"d", 0, &[])?)?;
-    list.push(snapshot(alloc, 4, b"", 0, &[])?)?;
-    list.push(snapshot(alloc, 6, b"d", 0, &[])?)?;
-    list.push(snapshot(alloc, 8, b"d", 0, &[])?)?;
-    let mut rules = Vec::new(alloc);
-    rules.push(rule)?;
-    let kept = retained(alloc, &rules, &[ident(needed)], &list)?;
-    let seqs = seqs_of(alloc, &kept)?;
-    assert_eq!(rt; seqs.as_slice(), stay);
+    for row in RETENTIONS {
+        retention_row(&rt, row)?;
+    }
     Ok(())
 }
+
+fn retention_row(rt: &(impl Abort + AllocGlobal), row: &Retention) -> Result<(), Fail> {
+    let alloc = rt.alloc();
+    let list = snapshots(alloc, KEPT_BY_LABEL)?;
+    let rules = rules(alloc, row.rules)?;
+    let kept = retained(alloc, &rules, &[ident(row.needed)], &list)?;
+    let seqs = seqs_of(alloc, &kept)?;
+    assert_eq!(rt; seqs.as_slice(), row.stay);
+    Ok(())
+}
+
+struct Limit {
+    rules: &'static [Rule],
+    /// The labels that are there, and those that would come.
+    there: &'static [&'static [u8]],
+    coming: &'static [&'static [u8]],
+    /// Whether the rule is named.
+    reached: bool,
+}
+
+const LIMITS: &[Limit] = &[
+    Limit {
+        rules: &[(b"d", 2, true)],
+        there: &[b"d"],
+        coming: &[b"d", b"d"],
+        reached: true,
+    },
+    Limit {
+        rules: &[(b"d", 3, true)],
+        there: &[b"d", b"e"],
+        coming: &[b"d", b"e", b"d"],
+        reached: false,
+    },
+    Limit {
+        rules: &[(b"d", 2, false)],
+        there: &[b"d"],
+        coming: &[b"d", b"d"],
+        reached: false,
+    },
+    Limit {
+        rules: &[(b"d", 1, true)],
+        there: &[b"d", b"d"],
+        coming: &[],
+        reached: true,
+    },
+];
 
 #[test]
 fn a_rule_that_preserves_has_a_limit(rt: HostRuntime) -> Result<(), Fail> {
-    let alloc = rt.alloc();
-    limit_row(&rt, rule(alloc, b"d", 2, true)?, b"d", b"dd", true)?;
-    limit_row(&rt, rule(alloc, b"d", 3, true)?, b"de", b"ded", false)?;
-    limit_row(&rt, rule(alloc, b"d", 2, false)?, b"d", b"dd", false)?;
-    limit_row(&rt, rule(alloc, b"d", 1, true)?, b"dd", b"", true)
-}
-
-// A rule, the labels that are there and those that would come, and whether the rule is named.
-fn limit_row(
-    rt: &(impl Abort + AllocGlobal),
-    rule: WorldRule,
-    there: &[u8],
-    coming: &[u8],
-    reached: bool,
-) -> Result<(), Fail> {
-    let alloc = rt.alloc();
-    let mut rules = Vec::new(alloc);
-    rules.push(rule)?;
-    let there = labels(alloc, there)?;
-    let coming = labels(alloc, coming)?;
-    assert_eq!(rt; keep_reached(&rules, &there, &coming).is_some(), reached);
+    for row in LIMITS {
+        limit_row(&rt, row)?;
+    }
     Ok(())
 }
+
+fn limit_row(rt: &(impl Abort + AllocGlobal), row: &Limit) -> Result<(), Fail> {
+    let alloc = rt.alloc();
+    let rules = rules(alloc, row.rules)?;
+    let there = labels(alloc, row.there)?;
+    let coming = labels(alloc, row.coming)?;
+    assert_eq!(rt;
+        keep_reached(&rules, &there, &coming).is_some(),
+        row.reached
+    );
+    Ok(())
+}
+
+struct Pruning {
+    rules: &'static [Rule],
+    needed: u64,
+    dropped: &'static [u64],
+}
+
+const PRUNINGS: &[Pruning] = &[
+    Pruning {
+        rules: &[(b"sm_created", 1, false)],
+        needed: 0,
+        dropped: &[2, 3, 7],
+    },
+    Pruning {
+        rules: &[(b"sm_created", 1, false)],
+        needed: 7,
+        dropped: &[2, 3],
+    },
+    Pruning {
+        rules: &[(b"all_source_snapshots", 1, false)],
+        needed: 3,
+        dropped: &[7],
+    },
+];
+
+/// What the source has.
+const AT_SOURCE: &[u64] = &[2, 5];
+
+/// One of a client, and three of a relationship.
+const OF_MAKERS: &[Given] = &[
+    (2, b"", 0, &[]),
+    (3, b"", 1, &[]),
+    (5, b"", 1, &[]),
+    (7, b"", 1, &[]),
+];
 
 #[test]
 fn a_mirror_drops_what_is_neither_needed_nor_in_step(rt: HostRuntime) -> Result<(), Fail> {
-    pruning_row(&rt, b"sm_created", 0, &[2, 3, 7])?;
-    pruning_row(&rt, b"sm_created", 7, &[2, 3])?;
-    pruning_row(&rt, b"all_source_snapshots", 3, &[7])
-}
-
-// A rule's label, what is needed, and which go of 2, of a client, and 3, 5 and 7, of a relationship,
-// where the source has 2 and 5.
-fn pruning_row(
-    rt: &(impl Abort + AllocGlobal),
-    text: &[u8],
-    needed: u64,
-    dropped: &[u64],
-) -> Result<(), Fail> {
-    let alloc = rt.alloc();
-    let source = list(alloc, &[2, 5])?;
-    let mut there = Vec::new(alloc);
-    there.push(snapshot(alloc, 2, b"", 0, &[])?)?;
-    there.push(snapshot(alloc, 3, b"", 1, &[])?)?;
-    there.push(snapshot(alloc, 5, b"", 1, &[])?)?;
-    there.push(snapshot(alloc, 7, b"", 1, &[])?)?;
-    let policy = policy(alloc, PolicyKind::AsyncMirror, text)?;
-    let gone = pruned(alloc, &policy, &[ident(needed)], &source, &there)?;
-    let seqs = seqs_of(alloc, &gone)?;
-    assert_eq!(rt; seqs.as_slice(), dropped);
+    for row in PRUNINGS {
+        pruning_row(&rt, row)?;
+    }
     Ok(())
 }
+
+fn pruning_row(rt: &(impl Abort + AllocGlobal), row: &Pruning) -> Result<(), Fail> {
+    let alloc = rt.alloc();
+    let source = list(alloc, AT_SOURCE)?;
+    let there = snapshots(alloc, OF_MAKERS)?;
+    let policy = policy(alloc, PolicyKind::AsyncMirror, row.rules)?;
+    let gone = pruned(alloc, &policy, &[ident(row.needed)], &source, &there)?;
+    let seqs = seqs_of(alloc, &gone)?;
+    assert_eq!(rt; seqs.as_slice(), row.dropped);
+    Ok(())
+}
+
+struct Common {
+    source: &'static [u64],
+    destination: &'static [u64],
+    newest: Option<Ident>,
+}
+
+const FOUR: Option<Ident> = Some(Ident { origin: 0, seq: 4 });
+
+const COMMONS: &[Common] = &[
+    Common {
+        source: &[2, 4, 6],
+        destination: &[2, 4, 9],
+        newest: FOUR,
+    },
+    Common {
+        source: &[6, 4, 2],
+        destination: &[2, 4, 9],
+        newest: FOUR,
+    },
+    Common {
+        source: &[2],
+        destination: &[4],
+        newest: None,
+    },
+    Common {
+        source: &[2],
+        destination: &[],
+        newest: None,
+    },
+];
 
 #[test]
 fn the_newest_common_snapshot(rt: HostRuntime) -> Result<(), Fail> {
-    common_row(&rt, &[2, 4, 6], &[2, 4, 9], Some(ident(4)))?;
-    common_row(&rt, &[6, 4, 2], &[2, 4, 9], Some(ident(4)))?;
-    common_row(&rt, &[2], &[4], None)?;
-    common_row(&rt, &[2], &[], None)
-}
-
-fn common_row(
-    rt: &(impl Abort + AllocGlobal),
-    source: &[u64],
-    destination: &[u64],
-    newest: Option<Ident>,
-) -> Result<(), Fail> {
-    let source = list(rt.alloc(), source)?;
-    let destination = list(rt.alloc(), destination)?;
-    assert_eq!(rt; common(&source, &destination), newest);
+    for row in COMMONS {
+        common_row(&rt, row)?;
+    }
     Ok(())
 }
 
-#[test]
-fn what_a_transfer_sends(rt: HostRuntime) -> Result<(), Fail> {
-    let alloc = rt.alloc();
-    let after = Some(ident(2));
-    let all = policy(alloc, PolicyKind::AsyncMirror, b"all_source_snapshots")?;
-    legs_row(&rt, &all, Kind::Rw, after, &[6, 8, 7])?;
-    legs_row(&rt, &all, Kind::Dp, after, &[6, 8])?;
-    let mirror = policy(alloc, PolicyKind::AsyncMirror, b"")?;
-    legs_row(&rt, &mirror, Kind::Rw, after, &[7])?;
-    legs_row(&rt, &mirror, Kind::Dp, after, &[8])?;
-    let vault = policy(alloc, PolicyKind::Vault, b"d")?;
-    legs_row(&rt, &vault, Kind::Rw, after, &[8])?;
-    legs_row(&rt, &vault, Kind::Dp, None, &[2, 8])?;
-    legs_row(&rt, &vault, Kind::Rw, Some(ident(8)), &[])
+fn common_row(rt: &(impl Abort + AllocGlobal), row: &Common) -> Result<(), Fail> {
+    let source = list(rt.alloc(), row.source)?;
+    let destination = list(rt.alloc(), row.destination)?;
+    assert_eq!(rt; common(&source, &destination), row.newest);
+    Ok(())
 }
 
-// What transfer 3 sends of four snapshots labelled d, d, not at all and d, where the destination has
-// the second.
-fn legs_row(
-    rt: &(impl Abort + AllocGlobal),
-    policy: &WorldPolicy,
-    kind: Kind,
+struct Transfer {
+    policy: PolicyKind,
+    rules: &'static [Rule],
+    source: Kind,
     base: Option<Ident>,
-    sent: &[u64],
-) -> Result<(), Fail> {
-    let alloc = rt.alloc();
-    let mut snapshots = Vec::new(alloc);
-    snapshots.push(snapshot(alloc, 2, b"d", 0, &[])?)?;
-    snapshots.push(snapshot(alloc, 4, b"d", 0, &[])?)?;
-    snapshots.push(snapshot(alloc, 6, b"", 0, &[])?)?;
-    snapshots.push(snapshot(alloc, 8, b"d", 0, &[])?)?;
-    let there = list(alloc, &[4])?;
-    let source = PlainSource {
+    sent: &'static [u64],
+}
+
+const TWO: Option<Ident> = Some(Ident { origin: 0, seq: 2 });
+
+const EIGHT: Option<Ident> = Some(Ident { origin: 0, seq: 8 });
+
+const TRANSFERS: &[Transfer] = &[
+    Transfer {
+        policy: PolicyKind::AsyncMirror,
+        rules: &[(b"all_source_snapshots", 1, false)],
+        source: Kind::Rw,
+        base: TWO,
+        sent: &[6, 8, 7],
+    },
+    Transfer {
+        policy: PolicyKind::AsyncMirror,
+        rules: &[(b"all_source_snapshots", 1, false)],
+        source: Kind::Dp,
+        base: TWO,
+        sent: &[6, 8],
+    },
+    Transfer {
+        policy: PolicyKind::AsyncMirror,
+        rules: &[],
+        source: Kind::Rw,
+        base: TWO,
+        sent: &[7],
+    },
+    Transfer {
+        policy: PolicyKind::AsyncMirror,
+        rules: &[],
+        source: Kind::Dp,
+        base: TWO,
+        sent: &[8],
+    },
+    Transfer {
+        policy: PolicyKind::Vault,
+        rules: &[(b"d", 1, false)],
+        source: Kind::Rw,
+        base: TWO,
+        sent: &[8],
+    },
+    Transfer {
+        policy: PolicyKind::Vault,
+        rules: &[(b"d", 1, false)],
+        source: Kind::Dp,
+        base: None,
+        sent: &[2, 8],
+    },
+    Transfer {
+        policy: PolicyKind::Vault,
+        rules: &[(b"d", 1, false)],
+        source: Kind::Rw,
+        base: EIGHT,
+        sent: &[],
+    },
+];
+
+/// Four snapshots labelled d, d, not at all and d.
+const SENT_BY_LABEL: &[Given] = &[
+    (2, b"d", 0, &[]),
+    (4, b"d", 0, &[]),
+    (6, b"", 0, &[]),
+    (8, b"d", 0, &[]),
+];
+
+/// Of those the destination has the second.
+const AT_DESTINATION: &[u64] = &[4];
+
+#[test]
+fn what_a_transfer_sends(rt: HostRuntime) -> Result<(), Fail> {
+    for row in TRANSFERS {
+        transfer_row(&rt, row)?;
+    }
+    Ok(())
+}
+
+fn source_of(alloc: Global, kind: Kind) -> Result<PlainSource, Fail> {
+    Ok(PlainSource {
         number: 0,
         kind,
-        snapshots,
-    };
-    let sends = legs(alloc, 3, policy, base, &source, &there)?;
+        snapshots: snapshots(alloc, SENT_BY_LABEL)?,
+    })
+}
+
+// What transfer 3 sends.
+fn transfer_row(rt: &(impl Abort + AllocGlobal), row: &Transfer) -> Result<(), Fail> {
+    let alloc = rt.alloc();
+    let source = source_of(alloc, row.source)?;
+    let there = list(alloc, AT_DESTINATION)?;
+    let policy = policy(alloc, row.policy, row.rules)?;
+    let sends = legs(alloc, 3, &policy, row.base, &source, &there)?;
     let numbers = numbers_of(alloc, &sends.idents)?;
-    assert_eq!(rt; numbers.as_slice(), sent);
+    assert_eq!(rt; numbers.as_slice(), row.sent);
     Ok(())
 }
