@@ -83,30 +83,19 @@ fn landed_from(
     match leg {
         [] => Ok(Vec::new(alloc)),
         [block, others @ ..] => {
+            let (first, left) = if is_missing(block.tag, first_tag(source)) {
+                (
+                    moved(alloc, block, first_number(free))?,
+                    other_numbers(free),
+                )
+            } else {
+                (kept_block(alloc, block, destination)?, free)
+            };
             let source_others = behind_first(source);
             let destination_others = behind_first(destination);
-            if is_missing(block.tag, first_tag(source)) {
-                let free_others = other_numbers(free);
-                let mut image = landed_from(
-                    alloc,
-                    others,
-                    source_others,
-                    destination_others,
-                    free_others,
-                )?;
-                image.insert(0, moved(alloc, block, first_number(free))?)?;
-                Ok(image)
-            } else {
-                let mut image = landed_from(
-                    alloc,
-                    others,
-                    source_others,
-                    destination_others,
-                    free,
-                )?;
-                image.insert(0, kept_block(alloc, block, destination)?)?;
-                Ok(image)
-            }
+            let mut image = landed_from(alloc, others, source_others, destination_others, left)?;
+            image.insert(0, first)?;
+            Ok(image)
         }
     }
 }
