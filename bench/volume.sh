@@ -3,7 +3,8 @@
 # write, a consistency point, a snapshot with its removal, a removal (where the snapshots differ from the
 # stable image at few blocks, and where they differ from it everywhere), and what encoding the same root
 # takes. It tells the user time of one call without what making the volume takes, how often that is the
-# encoding's, and the most memory. At most 2.00 is wanted. Not run by the gate.
+# encoding's, and the most memory. At most 2.00 is wanted. It takes about five minutes; the gate
+# does not run it.
 top=$(CDPATH='' cd -- "$(dirname -- "$0")/.." && pwd) || exit 1
 program=$top/crates/volume_bench/out/volume_bench
 
@@ -21,7 +22,7 @@ import subprocess
 import sys
 
 program = sys.argv[1]
-RUNS = 3
+RUNS = 8
 
 
 # The user time of a run, in microseconds: the least of some, since others may use the machine.
