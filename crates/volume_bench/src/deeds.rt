@@ -55,13 +55,8 @@ pub fn perform(alloc: Global, plan: &Plan) -> Result<usize, VolumeFault> {
     if plan.deed == Deed::Disk {
         return write_often(alloc, plan.size, plan.snapshots, plan.count);
     }
-    match empty(alloc, plan.size) {
-        Ok(volume) => {
-            let mut volume = volume;
-            perform_on(alloc, &mut volume, plan)
-        }
-        Err(fault) => Err(fault),
-    }
+    let mut volume = empty(alloc, plan.size)?;
+    perform_on(alloc, &mut volume, plan)
 }
 
 fn perform_on(
