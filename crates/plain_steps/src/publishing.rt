@@ -4,7 +4,7 @@ ghost use Rattle.std.specs.List.{filter, list_any};
 ghost use Rattle.sm_defs.specs.Volume.{idents};
 ghost use Rattle.sm_defs.specs.Needed.{needed};
 ghost use Rattle.sm_defs.specs.Retention.{retained};
-ghost use Rattle.sm_model.specs.OfVolumes.{with_snapshot};
+ghost use Rattle.sm_defs.specs.Operations.{with_snapshot};
 ghost use Rattle.sm_model.specs.Steps.{made_name, prepared_snapshot, is_elsewhere, family_published, arrived, list_published, published};
 ghost use Rattle.sm_model.specs.Due.{prepare_reason, prepare_effect, publish_effect, is_tidied, tidy_due, tidy_effect};
 ghost use Rattle.plain_steps.specs.Changes.{IsChange, reason_of_count};

@@ -8,6 +8,7 @@ ghost use Rattle.sm_defs.specs.Limits.{most_snapshots, last_number};
 ghost use Rattle.sm_defs.specs.World.{volume_at, with_volume};
 ghost use Rattle.sm_defs.specs.Needed.{holder};
 ghost use Rattle.sm_model.specs.OfVolumes as model;
+ghost use Rattle.sm_defs.specs.Operations as operations;
 ghost use Rattle.plain_volumes.specs.Answering.{Answers};
 
 use crate::pieces::{
@@ -138,7 +139,7 @@ pub fn create_volume(
 }
 
 fn first_of(tags: &[u32]) -> u32
-    ensures { result ≡ model.first_of tags.now }
+    ensures { result ≡ operations.first_of tags.now }
 {
     match tags {
         [] => 0,

@@ -2,6 +2,7 @@ pub mod Limits
 pub mod Words
 pub mod Image
 pub mod Volume
+pub mod Operations
 pub mod Relationship
 pub mod World
 pub mod Edges

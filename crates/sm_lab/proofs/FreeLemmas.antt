@@ -5,7 +5,7 @@ use Rattle.std.proofs.lemmas.List.Sums.{sum_by-cons, count_by-le-length}
 use Rattle.std.specs.List.{list_all, prefix_len}
 use Rattle.sm_defs.specs.Image.{stands, distinct}
 use Rattle.sm_defs.specs.Volume.{numbers}
-use Rattle.sm_model.specs.OfVolumes.{first_of}
+use Rattle.sm_defs.specs.Operations.{first_of}
 use Rattle.sm_lab.specs.Slots.{times, counts}
 use Rattle.sm_lab.proofs.CountLemmas.{claimed, hole_counts, get_counts, length-counts}
 

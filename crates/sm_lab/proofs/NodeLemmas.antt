@@ -22,6 +22,7 @@ use Rattle.sm_defs.specs.Volume as model
 use Rattle.sm_defs.specs.World.{Up, with_volume, volume_at}
 use Rattle.sm_model.specs.Answers.{Answer, and_then, refused_if, some_or, volume_named, volno, told, shows}
 use Rattle.sm_model.specs.OfVolumes as volumes
+use Rattle.sm_defs.specs.Operations as operations
 use Rattle.sm_laws.specs.Early.{IsEarly, creates, writes, snaps, reads, heads, lists, digests}
 use Rattle.sm_lab.specs.Node.{volume_of, IsAnswered, IsWritten, IsSnapped, IsShown, ChangesOne, write_test, snap_test, read_test, create_test}
 use Rattle.sm_lab.specs.declared.volume.Volume.{Volume}
@@ -161,7 +162,7 @@ pub written_at : (w : Up) (path : List ℕ) (block fill at : ℕ) (reply : Reply
 unfolding and_then
 written_at w path block fill at reply u e h =
     let v = volume_at w at in
-    rw (named_some w path at e) (write_by (not (model.is_rw v.kind)) (nat_le v.logical block) (model.used v == v.physical) w at block fill (volumes.first_of (model.free_tags v)) reply u h)
+    rw (named_some w path at e) (write_by (not (model.is_rw v.kind)) (nat_le v.logical block) (model.used v == v.physical) w at block fill (operations.first_of (model.free_tags v)) reply u h)
 
 snap_by : (a b c : Bool) (w : Up) (at : ℕ) (name : List ℕ) (label : Option (List ℕ)) (reply : Reply) (u : model.Volume) →
     IsSnapped (and_then (refused_if a refusals.ReadOnly) (λ _. and_then (refused_if b refusals.NameTaken) (λ _. and_then (refused_if c refusals.SnapFull) (λ _. Ok (tt {0}))))) at w.clock name label (volume_at w at) reply u →

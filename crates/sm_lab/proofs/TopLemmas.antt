@@ -11,7 +11,6 @@ use Rattle.sm_script.specs.declared.command.Command.{Command}
 use Rattle.sm_lab.specs.Node.{start}
 use Rattle.sm_lab.specs.History.{asked_by, all_asked, Reaches, IsLegal, HasBegun, IsWholeRun, IsPartRun}
 use Rattle.sm_lab.specs.Status.{longest_script, IsCaused, IsHistory, IsRun, HasHistory, due, due_of, IsDue}
-use Rattle.sm_laws.specs.Early.{AllEarly}
 use Rattle.sm_lab.proofs.RunLemmas.{nothing_yet}
 use Rattle.sm_lab.specs.Output.{Ends, IsPrinted, IsWritten}
 use Rattle.sm_lab.specs.declared.status.Status as the_status
@@ -66,9 +65,6 @@ legal old new statuses.Usage history e = (start, nothing history e)
 legal old new (statuses.BadLine line kind) history e = (start, nothing history e)
 legal old new statuses.ScriptTooLong history e = (start, nothing history e)
 legal old new statuses.ReadFault history e = (start, nothing history e)
-
-pub early : (old new : Option (List ℕ)) (status : the_status.Status) (history : List Entry) → IsHistory old new status history → AllEarly history
-early old new status history h = (legal old new status history h).1.early
 
 pub read_to_end : (old new : Option (List ℕ)) (status : the_status.Status) (history : List Entry) → IsHistory old new status history → history ≢ [] → IsAtEnd new
 read_to_end old new statuses.Fine history (commands, (text, short, came, end, parsed), done) some_done = end

@@ -8,7 +8,7 @@ use Rattle.sm_base.specs.declared.refusal.Refusal.TheVariants as refusals
 use Rattle.sm_defs.specs.Image.{Image, Block, tags, hole, full_block}
 use Rattle.sm_defs.specs.Volume as model
 use Rattle.sm_model.specs.Answers.{and_then, refused_if}
-use Rattle.sm_model.specs.OfVolumes.{first_of}
+use Rattle.sm_defs.specs.Operations.{first_of}
 use Rattle.sm_defs.specs.Volume.{numbers}
 use Rattle.sm_lab.specs.Slots.{slot_tags, taken_tags, all_tags, counts, times, next_of, block_of, snapshot_of, filled}
 use Rattle.sm_lab.specs.declared.volumes.TheConstants.{HOLE}

@@ -28,7 +28,7 @@ block_shown (events.Work shown) block y = absurd y
 block_shown e block y = refl
 
 -- what is printed of a reply that tells this
-told_text : Event → Told → Option (List ℕ)
+pub told_text : Event → Told → Option (List ℕ)
 told_text e (told reply) = shown_text e reply
 told_text e (bytes bs) = Some (bytes_text bs)
 
@@ -37,13 +37,13 @@ unfolding told_text
 told_prints e (told r) reply y k = ap (shown_text e) k
 told_prints e (bytes bs) reply y (block, k, f) = ap (shown_text e) k ∙ (block_shown e block y ∙ ap (λ x. Some (bytes_text x)) f)
 
-answer_text : Event → Option Answer → Option (List ℕ)
+pub answer_text : Event → Option Answer → Option (List ℕ)
 answer_text e (Some (Ok reached)) = told_text e reached.reply
 answer_text e (Some (Err refusal)) = shown_text e (replies.Refused refusal)
 answer_text e None = None
 
 -- the world that an answer leads to
-next : Option Answer → Up → Up
+pub next : Option Answer → Up → Up
 next (Some (Ok reached)) w = reached.world
 next (Some (Err refusal)) w = w
 next None w = w
@@ -74,26 +74,26 @@ refused_leads None reply w h = absurd h
 
 -- ---- what an entry prints, where it leads, and which sides it leaves
 
-text_after : World → Event → Option (List ℕ)
+pub text_after : World → Event → Option (List ℕ)
 text_after (up w) events.Restart = shown_text events.Restart replies.Done
 text_after (up w) e = answer_text e (answer w e)
 text_after (down disk d) e = shown_text e replies.Done
 
-world_after : World → Event → List Side → World
+pub world_after : World → Event → List Side → World
 world_after (up w) events.Restart sides = up (opened w)
 world_after (up w) e sides = up (next (answer w e) w)
 world_after (down disk d) events.Restart (Before ∷ sides) = up (opened d.old)
 world_after (down disk d) events.Restart (After ∷ sides) = up (opened d.new)
 world_after (down disk d) e sides = down disk d
 
-sides_after : Event → List Side → List Side
+pub sides_after : Event → List Side → List Side
 sides_after events.Restart (side ∷ sides) = sides
 sides_after e sides = sides
 
-record Follows (old : World) (e : Event) (reply : Reply) (sides : List Side) (new : World) (left : List Side) : Type 0 where
-  prints : shown_text e reply ≡ text_after old e
-  leads : new ≡ world_after old e sides
-  leaves : left ≡ sides_after e sides
+pub record Follows (old : World) (e : Event) (reply : Reply) (sides : List Side) (new : World) (left : List Side) : Type 0 where
+  pub prints : shown_text e reply ≡ text_after old e
+  pub leads : new ≡ world_after old e sides
+  pub leaves : left ≡ sides_after e sides
 
 done_follows : (w : Up) (e : Event) (sides : List Side) (d : Deed) → IsDecided e → IsDone (answer w e) d → Follows (up w) e d.reply sides (up d.new) sides
 unfolding answer text_after world_after sides_after
@@ -130,7 +130,7 @@ restart_follows old e reply side sides new r k p l =
       leaves = ap (λ x. sides_after x (side ∷ sides)) (sym q);
     }
 
-follows : {old new : World} {e : Entry} {sides left : List Side} {ds : List Deed} → Fits old e sides ds new left → IsDecided e.event → IsFaultless e.reply → Follows old e.event e.reply sides new left
+pub follows : {old new : World} {e : Entry} {sides left : List Side} {ds : List Deed} → Fits old e sides ds new left → IsDecided e.event → IsFaultless e.reply → Follows old e.event e.reply sides new left
 unfolding text_after world_after
 follows (done {w = w} {e = e} {sides = sides} d o a b c i) y n =
     subst (λ x. Follows (up w) e.event x sides (up d.new) sides) c (done_follows w e.event sides d y (subst (λ x. IsDone (answer x e.event) d) o (deed_done e.event d y i)))
@@ -145,13 +145,13 @@ follows (restart_failed disk count r k) y n = absurd (n.no_fault disk count k)
 
 -- ---- runs
 
-prints_line : (e : Entry) → entry_text e ≡ line_of_text e.line (shown_text e.event e.reply)
+pub prints_line : (e : Entry) → entry_text e ≡ line_of_text e.line (shown_text e.event e.reply)
 prints_line e = refl
 
-same_head : (x y : Asked) (xs ys : List Asked) → ◌≡◌ {A = List Asked} (x ∷ xs) (y ∷ ys) → x ≡ y
+pub same_head : (x y : Asked) (xs ys : List Asked) → ◌≡◌ {A = List Asked} (x ∷ xs) (y ∷ ys) → x ≡ y
 same_head x y xs ys e = cc
 
-same_tail : (x y : Asked) (xs ys : List Asked) → ◌≡◌ {A = List Asked} (x ∷ xs) (y ∷ ys) → xs ≡ ys
+pub same_tail : (x y : Asked) (xs ys : List Asked) → ◌≡◌ {A = List Asked} (x ∷ xs) (y ∷ ys) → xs ≡ ys
 same_tail x y xs ys e = cc
 
 same_entry : (w : World) (e f : Entry) → asked_of e ≡ asked_of f → shown_text e.event e.reply ≡ text_after w e.event → shown_text f.event f.reply ≡ text_after w f.event → entry_text e ≡ entry_text f

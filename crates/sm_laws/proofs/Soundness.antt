@@ -1,28 +1,19 @@
--- Legal runs keep the sound world.
+-- Legal runs of early events keep the world bare.
 use Rattle.std.proofs.Common.{List, [], ◌∷◌, sym, subst}
 use Rattle.sm_base.specs.declared.numbers.Side.{Side}
-use Rattle.sm_defs.specs.Words.{Among}
 use Rattle.sm_defs.specs.World.{Up}
 use Rattle.sm_model.specs.declared.reply.Entry.{Entry}
 use Rattle.sm_model.specs.World.{World, up, down, Deed}
 use Rattle.sm_model.specs.LegalRun.{Fits, done, quiet, failed, down_still, restart_up, restart_before, restart_after, restart_failed_up, restart_failed, IsAsked, Run}
-use Rattle.sm_model.specs.Sound.{SoundUp, Sound}
-use Rattle.transfer_laws.proofs.Asc.{among_each}
-use Rattle.step_laws.specs.Contents.{BeginSound}
+use Rattle.sm_model.specs.Sound.{SoundUp}
 use Rattle.sm_laws.specs.Early.{IsEarly, AllEarly, IsBare}
-use Rattle.sm_laws.proofs.Entries.{no_restart, all_joined}
+use Rattle.sm_laws.proofs.Entries.{no_restart}
 use Rattle.sm_laws.proofs.EarlyStays.{early_keeps}
-use Rattle.sm_laws.proofs.Runs.{Cut}
 
 -- the world is sound, and bare where it is up
 pub SoundBare : World → Type 0
 SoundBare (up w) = SoundUp w × IsBare w
 SoundBare (down disk d) = SoundUp d.old × SoundUp d.new
-
-pub is_sound : (w : World) → SoundBare w → Sound w
-unfolding SoundBare
-is_sound (up w) s = s.0
-is_sound (down disk d) s = s
 
 pub is_bare : {w : Up} → SoundBare (up w) → IsBare w
 unfolding SoundBare
@@ -46,32 +37,7 @@ entry_keeps (restart_after r k) y asked s = absurd (no_restart y r)
 entry_keeps (restart_failed_up disk count r k) y asked s = absurd (no_restart y r)
 entry_keeps (restart_failed disk count r k) y asked s = absurd (no_restart y r)
 
--- its deed begins in a sound world
-entry_begins : {old new : World} {e : Entry} {sides left : List Side} {ds : List Deed} → Fits old e sides ds new left → IsEarly e.event → SoundBare old → BeginSound ds
-unfolding SoundBare
-entry_begins (done d o a b c i) y s = (subst SoundUp (sym o) s.0, tt)
-entry_begins (quiet i) y s = tt
-entry_begins (failed d disk count o a b i c k) y s = tt
-entry_begins (down_still n k) y s = tt
-entry_begins (restart_up side r k) y s = tt
-entry_begins (restart_before r k) y s = tt
-entry_begins (restart_after r k) y s = absurd (no_restart y r)
-entry_begins (restart_failed_up disk count r k) y s = tt
-entry_begins (restart_failed disk count r k) y s = tt
-
 -- a run
 pub run_keeps : (old new : World) (es : List Entry) (sides : List Side) (ds : List Deed) → AllEarly es → Run old es sides ds new → SoundBare old → SoundBare new
 run_keeps old new [] sides ds y (a, b, c) s = subst SoundBare (sym c) s
 run_keeps old new (e ∷ es) sides ds y (first, later, left, mid, asked, f, r, q) s = run_keeps mid new es left later y.1 r (entry_keeps f y.0 asked s)
-
-pub run_begins : (old new : World) (es : List Entry) (sides : List Side) (ds : List Deed) → AllEarly es → Run old es sides ds new → SoundBare old → BeginSound ds
-run_begins old new [] sides ds y (a, b, c) s = subst BeginSound (sym b) tt
-run_begins old new (e ∷ es) sides ds y (first, later, left, mid, asked, f, r, q) s =
-    subst BeginSound (sym q) (all_joined (λ d. SoundUp d.old) first later (entry_begins f y.0 s) (run_begins mid new es left later y.1 r (entry_keeps f y.0 asked s)))
-
-pub among_begins : (ds : List Deed) (d : Deed) → BeginSound ds → Among ds d → SoundUp d.old
-among_begins ds d = among_each (λ d. SoundUp d.old) ds d
-
--- each world of a run is sound: a run is cut where its worlds are
-pub cut_sound : (old new : World) (front back : List Entry) (sides : List Side) (ds : List Deed) → AllEarly front → (c : Cut old new front back sides ds) → SoundBare old → Sound c.mid
-cut_sound old new front back sides ds y c s = is_sound c.mid (run_keeps old c.mid front c.taken c.first y c.front_runs s)

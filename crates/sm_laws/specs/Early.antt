@@ -8,7 +8,8 @@ use Rattle.sm_model.specs.declared.event.Event.{Event}
 use Rattle.sm_model.specs.declared.event.Event.TheVariants as events
 use Rattle.sm_model.specs.declared.reply.Entry.{Entry}
 use Rattle.sm_model.specs.declared.reply.Reply.{Reply}
-use Rattle.sm_model.specs.LegalRun.{fault, is_down}
+use Rattle.sm_model.specs.World.{Deed}
+use Rattle.sm_model.specs.LegalRun.{fault, is_down, IsChosen}
 use Rattle.sm_defs.specs.World.{Up}
 
 pub data IsEarly : Event → Type 0 where
@@ -38,6 +39,10 @@ IsDecided _ = Unit {0}
 
 abbrev pub AllDecided : List Entry → Type 0
 AllDecided es = AllByRecursion (λ e. IsDecided e.event) es
+
+-- each worker's step is the one that this program chooses for its actor
+abbrev pub AllChosen : List Deed → Type 0
+AllChosen ds = AllByRecursion (λ d. IsChosen d.event d) ds
 
 -- no relationship and no policy stands
 pub record IsBare (w : Up) : Type 0 where

@@ -14,26 +14,20 @@ use Rattle.sm_model.specs.Answers.{◌and◌, volno}
 use Rattle.sm_model.specs.Answer.{answer}
 use Rattle.sm_model.specs.OfVolumes.{length_needed, with_new_volume}
 use Rattle.sm_model.specs.World.{World, up, Deed}
-use Rattle.sm_model.specs.LegalRun.{Fits, Run, IsAsked}
+use Rattle.sm_model.specs.LegalRun.{Fits, Run}
 use Rattle.sm_model.specs.Sound.{SoundUp, Sound}
 use Rattle.sm_model.specs.Asked.{asked_of}
 use Rattle.sm_model.specs.Text.{transcript}
 use Rattle.step_laws.specs.Contents.{BeginSound}
-use Rattle.sm_laws.specs.Early.{IsEarly, AllEarly, AllDecided, AllFaultless, IsFaultless, IsBare}
+use Rattle.sm_laws.specs.Early.{AllDecided, AllChosen, AllFaultless, IsFaultless}
 use Rattle.sm_laws.specs.Listed.{IsListed}
 
 abbrev pub EmptyWorldIsSound : Type 0
 EmptyWorldIsSound = (disks : List ℕ) → SoundUp (empty_world disks)
 
-abbrev pub EntriesKeepSoundness : Type 0
-EntriesKeepSoundness =
-    (w : Up) (e : Entry) (sides left : List Side) (deeds : List Deed) (new : World) → IsBare w → IsEarly e.event →
-    SoundUp w → IsAsked (up w) e.event → Fits (up w) e sides deeds new left → Sound new
-
+-- with any events, faults and restarts
 abbrev pub RunsKeepSoundness : Type 0
-RunsKeepSoundness =
-    (start : Up) (es : List Entry) (sides : List Side) (deeds : List Deed) (new : World) → IsBare start → AllEarly es →
-    SoundUp start → Run (up start) es sides deeds new → Sound new
+RunsKeepSoundness = (old new : World) (es : List Entry) (sides : List Side) (deeds : List Deed) → Run old es sides deeds new → Sound old → Sound new
 
 -- the run goes through a sound world between the first entries and the others
 pub record PassesSound (start : Up) (first others : List Entry) (sides : List Side) (deeds : List Deed) (new : World) : Type 0 where
@@ -50,19 +44,23 @@ pub record PassesSound (start : Up) (first others : List Entry) (sides : List Si
 
 abbrev pub EachWorldIsSound : Type 0
 EachWorldIsSound =
-    (start : Up) (first others : List Entry) (sides : List Side) (deeds : List Deed) (new : World) → IsBare start → AllEarly first →
-    SoundUp start → Run (up start) (first ++ others) sides deeds new →
+    (start : Up) (first others : List Entry) (sides : List Side) (deeds : List Deed) (new : World) → SoundUp start → Run (up start) (first ++ others) sides deeds new →
     PassesSound start first others sides deeds new
 
--- so each deed of a run begins in a sound world, as laws of whole runs ask for
+-- so each deed of a run begins in a sound world
 abbrev pub DeedsBeginSound : Type 0
-DeedsBeginSound =
-    (start : Up) (es : List Entry) (sides : List Side) (deeds : List Deed) (new : World) → IsBare start → AllEarly es →
-    SoundUp start → Run (up start) es sides deeds new → BeginSound deeds
+DeedsBeginSound = (old new : World) (es : List Entry) (sides : List Side) (deeds : List Deed) → Run old es sides deeds new → Sound old → BeginSound deeds
 
 abbrev pub TextIsDetermined : Type 0
 TextIsDetermined =
     (start new other : World) (es fs : List Entry) (sides : List Side) (deeds others : List Deed) → AllDecided es → AllFaultless es → AllFaultless fs →
+    Run start es sides deeds new → Run start fs sides others other →
+    map asked_of es ≡ map asked_of fs → (transcript es ≡ transcript fs) × (new ≡ other)
+
+-- with workers' steps too, where each is the one that this program chooses for its actor
+abbrev pub ChosenTextIsDetermined : Type 0
+ChosenTextIsDetermined =
+    (start new other : World) (es fs : List Entry) (sides : List Side) (deeds others : List Deed) → AllFaultless es → AllFaultless fs → AllChosen deeds → AllChosen others →
     Run start es sides deeds new → Run start fs sides others other →
     map asked_of es ≡ map asked_of fs → (transcript es ≡ transcript fs) × (new ≡ other)
 

@@ -1,3 +1,5 @@
 pub mod Early
 pub mod Listed
 pub mod Laws
+pub mod Worlds
+pub mod Examples

@@ -3,10 +3,12 @@
 //! Each law is what a function without code ensures. The crate has no other code; its lemmas in
 //! `proofs/` are for the crates above. Laws of what a transfer rests on stand in `transfer_laws`, and laws
 //! of answers, steps, deeds and runs over all events in `step_laws`; both are handed on here. That runs
-//! stay sound is so far proved of early events alone, which `specs/Early` names.
+//! stay sound holds of all events, faults and restarts.
 #![tactic(auto)]
 
-ghost use Rattle.sm_laws.specs.Laws.{EmptyWorldIsSound, EntriesKeepSoundness, RunsKeepSoundness, EachWorldIsSound, DeedsBeginSound, TextIsDetermined, RefusalsAreListed, EntriesAreRefusedAsListed, FirstVolumeIsMade};
+ghost use Rattle.sm_laws.specs.Laws.{EmptyWorldIsSound, RunsKeepSoundness, EachWorldIsSound, DeedsBeginSound, TextIsDetermined, ChosenTextIsDetermined, RefusalsAreListed, EntriesAreRefusedAsListed, FirstVolumeIsMade};
+ghost use Rattle.sm_laws.specs.Examples.{TransfersRun};
+ghost use Rattle.sm_laws.specs.Worlds.{WorldsAreSound, WorldsHaveOrigins, RunsEndWithOrigins, RunsMakeOnce, RunsDropByRule, EntriesDropByRule, NoneNeededGoes, WorldsHaveBases};
 
 // Refusals leave the world, and nothing else is told as one.
 pub use step_laws::{
@@ -24,6 +26,7 @@ pub use step_laws::{
 // What is needed stays, and what goes is what the rules name.
 pub use step_laws::{
     answers_drop_what_is_named, answers_keep_the_needed, deeds_keep_the_needed, drops_are_named,
+    entries_drop_what_is_named, entries_go_on, entries_keep_the_needed, no_deed_keeps_snapshots,
     restarts_keep_snapshots, runs_do_deeds, runs_drop_what_is_named, runs_keep_the_needed,
     steps_keep_the_needed,
 };
@@ -36,6 +39,13 @@ pub use step_laws::{
     deeds_keep_transfers, restarts_keep_copies, restarts_keep_destinations, restarts_keep_families,
     restarts_keep_family_numbers, restarts_keep_form, restarts_keep_numbers, restarts_keep_tags,
     restarts_keep_transfers, steps_keep_copies, steps_keep_crossed, steps_keep_tags,
+};
+
+// A sound world stays sound.
+pub use step_laws::{
+    answers_keep_fit, deeds_keep_all_families, deeds_keep_crossed, deeds_keep_fit, deeds_keep_legs,
+    deeds_keep_sound, entries_keep_sound, restarts_keep_all_families, restarts_keep_crossed,
+    restarts_keep_fit, restarts_keep_legs, restarts_keep_sound,
 };
 
 // Each snapshot has the contents that its origin held.
@@ -69,27 +79,18 @@ pub fn empty_world_is_sound()
     ensures { EmptyWorldIsSound }
 {}
 
-/// Each early entry that can be asked for leads from a sound world without relationships and policies to
-/// a sound world.
-pub fn entries_keep_soundness()
-    ensures { EntriesKeepSoundness }
-{}
-
-/// A legal run of early events from a sound world without relationships and policies ends in a sound
-/// world.
+/// Each run from a sound world ends in a sound one, whatever is asked and whatever fails.
 pub fn runs_keep_soundness()
     ensures { RunsKeepSoundness }
 {}
 
-/// A legal run from a sound world without relationships and policies passes through sound worlds alone
-/// while its events are early: behind any of these it can be cut in two runs, with a sound world between
-/// them.
+/// A legal run from a sound world passes through sound worlds alone: behind any of its entries it can be
+/// cut in two runs, with a sound world between them.
 pub fn each_world_is_sound()
     ensures { EachWorldIsSound }
 {}
 
-/// Each deed of a legal run of early events from a sound world without relationships and policies begins
-/// in a sound world, so that each law of such runs that is handed on here holds of it.
+/// Each deed of such a run begins in a sound world.
 pub fn deeds_begin_sound()
     ensures { DeedsBeginSound }
 {}
@@ -113,4 +114,57 @@ pub fn entries_are_refused_as_listed()
 /// Where nothing was created, a volume is made on any disk that is long enough.
 pub fn first_volume_is_made()
     ensures { FirstVolumeIsMade }
+{}
+
+/// Each world of a run from a sound world is sound: the first, those between entries, the last.
+pub fn worlds_are_sound()
+    ensures { WorldsAreSound }
+{}
+
+/// In each of them each copy of an identity has what its origin held.
+pub fn worlds_have_origins()
+    ensures { WorldsHaveOrigins }
+{}
+
+/// So it is in the last world, with all deeds of the run.
+pub fn runs_end_with_origins()
+    ensures { RunsEndWithOrigins }
+{}
+
+/// No deed of such a run makes an identity that stood at the start or was made before.
+pub fn runs_make_once()
+    ensures { RunsMakeOnce }
+{}
+
+/// Each deed of such a run drops exactly the snapshots that the rules name for it.
+pub fn runs_drop_by_rule()
+    ensures { RunsDropByRule }
+{}
+
+/// In each world of such a run a base is on each side that has its half, and a remaining leg on its
+/// source but for a reserved one that was not made.
+pub fn worlds_have_bases()
+    ensures { WorldsHaveBases }
+{}
+
+/// Each entry of such a run drops exactly what the rules name for its deed: a restart that finds a deed done
+/// too, and an entry without a deed nothing.
+pub fn entries_drop_by_rule()
+    ensures { EntriesDropByRule }
+{}
+
+/// No entry of a run drops a snapshot that some relationship needs.
+pub fn none_needed_goes()
+    ensures { NoneNeededGoes }
+{}
+
+/// What a history was asked for, its start and the sides of its restarts determine its text and its last
+/// world, where no disk fails and each worker's step is the one that this program chooses for its actor.
+pub fn chosen_text_is_determined()
+    ensures { ChosenTextIsDetermined }
+{}
+
+/// A transfer of each kind, of a mirror and of a vault, runs in some sound world, so that what is said of them is not said of nothing.
+pub fn transfers_run()
+    ensures { TransfersRun }
 {}

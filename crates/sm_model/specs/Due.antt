@@ -14,7 +14,7 @@ use Rattle.sm_defs.specs.World.{Up, volume_at, with_volume, with_relation}
 use Rattle.sm_defs.specs.Needed.{needed, holder}
 use Rattle.sm_defs.specs.Edges.{is_empty}
 use Rattle.sm_model.specs.Answers.{relno, volno}
-use Rattle.sm_model.specs.OfVolumes.{with_snapshot}
+use Rattle.sm_defs.specs.Operations.{with_snapshot}
 use Rattle.sm_model.specs.OfTransfers.{without_transfer, settled, past, landed_prefix, Holding, first_held}
 use Rattle.sm_model.specs.Running.{Running, IsRunning}
 use Rattle.sm_model.specs.Steps.{Effect, number_of, with_destination, with_progress, interrupts, reverted, prepared_snapshot, snapshot_of, cost, arrived, published, list_published, may_ship, all_landed, at_checkpoint}

@@ -1,5 +1,5 @@
 -- The shape that a world has by the grammar of its records.
-use Rattle.std.specs.Prelude.{◌≡◌, ◌≢◌, ℕ, suc, ◌≤◌, ◌<◌, true, false, List, [], ◌∷◌, ◌++◌, length, Some, None}
+use Rattle.std.specs.Prelude.{◌≡◌, ◌≢◌, ℕ, suc, ◌≤◌, ◌<◌, ◌^◌, true, false, List, [], ◌∷◌, ◌++◌, length, Some, None}
 use Rattle.std.specs.List.{AllByRecursion}
 use Rattle.sm_base.specs.Name.{is_part, is_path, is_label, is_snapshot_name}
 use Rattle.sm_base.specs.declared.numbers.Ident.{Ident}
@@ -19,11 +19,14 @@ use Rattle.sm_model.specs.Standing.{Stored, EachVolume, EachRelation}
 pub record FormedSnapshot (s : Snapshot) : Type 0 where
   pub name : is_snapshot_name s.name ≡ true
   pub label : IsLabel s.label
+  pub time : s.time < 2 ^ 64
 
 pub record FormedVolume (v : Volume) : Type 0 where
   pub path : is_path v.path ≡ true
+  pub disk : v.disk < 2 ^ 32
   pub long : (image : Image) → Among (images_of v) image → length image ≡ v.logical
   pub whole : (p : ℕ) (b : Block) → Stored v p b → length b.bytes ≡ 4096
+  pub bytes : (p : ℕ) (b : Block) → Stored v p b → (byte : ℕ) → Among b.bytes byte → byte ≤ 255
   pub holes : (p : ℕ) (b : Block) → Stored v p b → b.tag ≡ 0 → b ≡ hole
   pub some_blocks : 1 ≤ v.logical
   pub few_blocks : v.logical ≤ most_logical
@@ -62,6 +65,7 @@ pub record FormedTransfer (r : Relationship) (t : Transfer) : Type 0 where
   pub landed : t.stopped ≢ None → t.landed ≡ numbers 0 t.checkpoint
   pub reserved : t.reserved ≡ true → (earlier : List Ident) × (t.legs ≡ earlier ++ made_ident r.source t.number ∷ [])
   pub few : length t.legs ≤ suc most_snapshots
+  pub checkpoint : t.checkpoint < 2 ^ 32
 
 pub record FormedRelation (r : Relationship) : Type 0 where
   pub half : has_a_half r ≡ true

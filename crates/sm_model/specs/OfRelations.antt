@@ -1,7 +1,6 @@
 -- What events on relationships are answered, but for those that start or stop a transfer.
 use Rattle.std.specs.Prelude.{ℕ, suc, ◌==◌, ◌&&◌, ◌||◌, not, Bool, true, false, List, [], ◌∷◌, ◌++◌, length, slice_set, Option, Some, None, is_some, Result, Ok, Err}
 use Rattle.std.specs.List.{filter}
-use Rattle.sm_base.specs.declared.numbers.Kind.TheVariants.{Rw}
 use Rattle.sm_base.specs.declared.refusal.What.TheVariants.{Relations}
 use Rattle.sm_base.specs.declared.refusal.Refusal.{Refusal}
 use Rattle.sm_base.specs.declared.refusal.Refusal.TheVariants as refusals
@@ -9,6 +8,7 @@ use Rattle.sm_model.specs.declared.reply.Reply.TheVariants as replies
 use Rattle.sm_defs.specs.Limits.{most_relations, last_relation}
 use Rattle.sm_defs.specs.Words.{Found, found, or_else}
 use Rattle.sm_defs.specs.Volume.{Volume, is_rw}
+use Rattle.sm_defs.specs.Operations as operations
 use Rattle.sm_defs.specs.Relationship.{Policy, Relationship, is_mirror}
 use Rattle.sm_defs.specs.World.{Up, with_volume, with_relation}
 use Rattle.sm_defs.specs.Edges.{edges, upstream, is_empty, Edge}
@@ -68,7 +68,7 @@ set_quiesced w destination flag = do
 
 -- clients may write it
 abbrev pub writable : Volume → Volume
-writable v = record v { kind = Rw }
+writable v = operations.writable v
 
 abbrev pub break_off : Up → List ℕ → Answer
 break_off w destination = do

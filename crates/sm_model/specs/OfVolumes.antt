@@ -1,5 +1,5 @@
 -- What events on volumes and snapshots are answered.
-use Rattle.std.specs.Prelude.{ℕ, suc, ◌+◌, ◌*◌, ◌==◌, ◌||◌, not, nat_lt, nat_le, List, [], ◌∷◌, ◌++◌, length, slice_set, slice_get, slice_index_or, Option, Some, None, Result, Ok, Err}
+use Rattle.std.specs.Prelude.{ℕ, ◌+◌, ◌*◌, ◌==◌, ◌||◌, nat_lt, List, [], ◌∷◌, ◌++◌, length, slice_get, slice_index_or, Option, Some, None, Result, Ok, Err}
 use Rattle.std.specs.List.{list_any}
 use Rattle.std.specs.Str.{bytes_eq}
 use Rattle.sm_base.specs.declared.numbers.Ident.{Ident}
@@ -12,7 +12,9 @@ use Rattle.sm_model.specs.declared.reply.Reply.TheVariants as replies
 use Rattle.sm_defs.specs.Limits.{most_volumes, most_snapshots, last_number, before_blocks}
 use Rattle.sm_defs.specs.Words.{last_that, same_ident}
 use Rattle.sm_defs.specs.Image.{Image, Block, hole, full_block}
-use Rattle.sm_defs.specs.Volume.{Volume, Snapshot, new_volume, is_rw, used, free_tags, without}
+use Rattle.sm_defs.specs.Volume.{Volume, Snapshot, new_volume, without}
+use Rattle.sm_defs.specs.Operations.{least_free, settled, counted, with_snapshot, is_read_only, is_past, is_used_up, has_name}
+use Rattle.sm_defs.specs.Operations as operations
 use Rattle.sm_defs.specs.Relationship.{Relationship}
 use Rattle.sm_defs.specs.Needed.{holder}
 use Rattle.sm_defs.specs.World.{Up, with_volume}
@@ -35,21 +37,16 @@ create_volume w path disk kind logical physical = do
   refusals.DiskSmall (length_needed physical) len when nat_lt len (length_needed physical)
   replies.Created (volno (length w.volumes)) and with_new_volume w (new_volume path disk.0 kind (length w.volumes) logical physical)
 
--- the least free number, where one is free
-abbrev pub first_of : List ℕ → ℕ
-first_of [] = 0
-first_of (t ∷ ts) = t
-
 -- a new block lies at the least free number
 abbrev pub written : Volume → ℕ → ℕ → Volume
-written v block fill = record v { active = slice_set v.active block (full_block (first_of (free_tags v)) fill) }
+written v block fill = operations.written v block (full_block (least_free v) fill)
 
 abbrev pub write : Up → List ℕ → ℕ → ℕ → Answer
 write w path block fill = do
   v ← volume_named w path
-  refusals.ReadOnly when not (is_rw v.item.kind)
-  refusals.BadBlock when nat_le v.item.logical block
-  refusals.NoSpace when used v.item == v.item.physical
+  refusals.ReadOnly when is_read_only v.item
+  refusals.BadBlock when is_past v.item block
+  refusals.NoSpace when is_used_up v.item
   replies.Done and with_volume w v.at (written v.item block fill)
 
 abbrev pub client_ident : ℕ → Volume → Ident
@@ -59,22 +56,14 @@ abbrev pub client_snapshot : ℕ → ℕ → Volume → List ℕ → Option (Lis
 client_snapshot number time v name label =
     record { ident = client_ident number v; name = name; label = label; time = time; maker = 0; image = v.active }
 
--- a consistency point, and a snapshot behind the others
-abbrev pub with_snapshot : Volume → Snapshot → Volume
-with_snapshot v s = record v { stable = v.active; snapshots = v.snapshots ++ s ∷ [] }
-
--- the next number is never given again
-abbrev pub counted : Volume → Volume
-counted v = record v { next = suc v.next }
-
 abbrev pub snapped : ℕ → ℕ → Volume → List ℕ → Option (List ℕ) → Volume
 snapped number time v name label = counted (with_snapshot v (client_snapshot number time v name label))
 
 abbrev pub snap : Up → List ℕ → List ℕ → Option (List ℕ) → Answer
 snap w path name label = do
   v ← volume_named w path
-  refusals.ReadOnly when not (is_rw v.item.kind)
-  refusals.NameTaken when list_any (λ s. bytes_eq s.name name) v.item.snapshots
+  refusals.ReadOnly when is_read_only v.item
+  refusals.NameTaken when has_name v.item.snapshots name
   refusals.SnapFull when (length v.item.snapshots == most_snapshots) || (v.item.next == last_number)
   replies.Snapped (client_ident v.at v.item) and with_volume w v.at (snapped v.at w.clock v.item name label)
 
@@ -94,18 +83,18 @@ abbrev pub unsnap : Up → List ℕ → List ℕ → Answer
 unsnap w path name = do
   v ← volume_named w path
   s ← snapshot_named v.item name
-  refusals.ReadOnly when not (is_rw v.item.kind)
+  refusals.ReadOnly when is_read_only v.item
   held (holder w v.at s.ident)
   replies.Done and with_volume w v.at (without_snapshot v.item s.ident)
 
 -- the active image is the stable one
 abbrev pub at_point : Volume → Volume
-at_point v = record v { stable = v.active }
+at_point v = settled v
 
 abbrev pub cp : Up → List ℕ → Answer
 cp w path = do
   v ← volume_named w path
-  refusals.ReadOnly when not (is_rw v.item.kind)
+  refusals.ReadOnly when is_read_only v.item
   replies.Done and with_volume w v.at (at_point v.item)
 
 unfoldable pub image_named : Volume → Option (List ℕ) → Result Image Refusal
@@ -121,5 +110,5 @@ abbrev pub read : Up → List ℕ → Option (List ℕ) → ℕ → Answer
 read w path name place = do
   v ← volume_named w path
   image ← image_named v.item name
-  refusals.BadBlock when nat_le v.item.logical place
+  refusals.BadBlock when is_past v.item place
   shows (block_at image place).bytes w

@@ -2,12 +2,13 @@
 use Rattle.std.specs.Prelude.{false, map, Option, Some, None}
 use Rattle.sm_base.specs.declared.refusal.Reason.TheVariants.{Restart}
 use Rattle.sm_defs.specs.Volume.{Volume, numbers}
+use Rattle.sm_defs.specs.Operations as operations
 use Rattle.sm_defs.specs.Relationship.{Relationship, Transfer}
 use Rattle.sm_defs.specs.World.{Up}
 
 -- what was written since the last consistency point is lost
 abbrev pub reopened : Volume → Volume
-reopened v = record v { active = v.stable }
+reopened v = operations.opened v
 
 -- whatever its reason was before
 abbrev pub restarted : Option Transfer → Option Transfer

@@ -2,7 +2,6 @@
 use Rattle.std.specs.Prelude.{ℕ, suc, ◌+◌, ◌==◌, ◌&&◌, ◌||◌, not, nat_lt, Bool, false, List, [], ◌∷◌, ◌++◌, codes, decimal, Option, Some, None, if◌then◌else◌}
 use Rattle.std.specs.List.{list_all, find}
 use Rattle.sm_base.specs.declared.numbers.Ident.{Ident}
-use Rattle.sm_base.specs.declared.numbers.Kind.TheVariants.{Dp}
 use Rattle.sm_base.specs.declared.numbers.RelNo.{RelNo}
 use Rattle.sm_base.specs.declared.refusal.Reason.{Reason}
 use Rattle.sm_model.specs.declared.reply.Reply.{Reply}
@@ -11,6 +10,8 @@ use Rattle.sm_defs.specs.Limits.{window, first_made_family}
 use Rattle.sm_defs.specs.Words.{same_ident}
 use Rattle.sm_defs.specs.Image.{Image, stands}
 use Rattle.sm_defs.specs.Volume.{Volume, Snapshot, has, numbers, free_tags}
+use Rattle.sm_defs.specs.Operations.{taken_over}
+use Rattle.sm_defs.specs.Operations as operations
 use Rattle.sm_defs.specs.Relationship.{Transfer, is_mirror}
 use Rattle.sm_defs.specs.Missing.{Bases, mirror_cost, vault_cost, vault_landing}
 use Rattle.sm_defs.specs.Retention.{retained}
@@ -49,13 +50,9 @@ family_of_transfer transfer = first_made_family + transfer
 
 -- the destination is read-only again, as it was at the base
 abbrev pub reverted : Running → Snapshot → Volume
-reverted x base = record x.destination {
-  kind = Dp;
-  active = base.image;
-  stable = base.image;
-  family = if is_mirror x.policy.kind then x.destination.family else family_of_transfer x.transfer.number;
-  snapshots = as_reverted x.policy base.ident x.destination.snapshots;
-}
+reverted x base = operations.reverted x.destination base.image
+    (if is_mirror x.policy.kind then x.destination.family else family_of_transfer x.transfer.number)
+    (as_reverted x.policy base.ident x.destination.snapshots)
 
 abbrev pub made_name : ℕ → ℕ → List ℕ
 made_name relation transfer = codes "snapmirror." ++ decimal relation ++ codes "." ++ decimal transfer
@@ -116,12 +113,7 @@ list_published w x s = if is_mirror x.policy.kind then x.destination.snapshots +
     else retained x.policy.rules (needed w x.relation.destination) (x.destination.snapshots ++ s ∷ [])
 
 abbrev pub published : Up → Running → Snapshot → Volume
-published w x leg = record x.destination {
-  family = family_published w x leg.ident;
-  active = landing x leg;
-  stable = landing x leg;
-  snapshots = list_published w x (arrived x leg);
-}
+published w x leg = taken_over x.destination (landing x leg) (family_published w x leg.ident) (list_published w x (arrived x leg))
 
 -- it is one of the leg's blocks, has not landed, and is not too far past the checkpoint
 abbrev pub may_ship : Running → ℕ → ℕ → Bool

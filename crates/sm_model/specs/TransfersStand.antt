@@ -19,6 +19,7 @@ IsFirst (j ∷ js) i = i ≡ j
 
 pub record TransferStands (v : Volume) (r : Relationship) (t : Transfer) : Type 0 where
   pub writable : v.kind ≡ Rw → (t.kind ≡ Resync) × (t.checkpoint ≡ 0) × (t.landed ≡ []) × ((i : Ident) → Among t.legs i → has v.snapshots i ≡ false)
+  pub unpruned : v.kind ≡ Rw → t.pruned ≡ false
   pub resync : t.kind ≡ Resync → r.base ≢ None
   pub ahead : (i : Ident) → Among (later t.legs) i → has v.snapshots i ≡ false
   -- else it could not be settled, since nothing would be the base

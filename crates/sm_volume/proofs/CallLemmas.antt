@@ -35,7 +35,8 @@ use Rattle.volume_store.proofs.Found.{nowhere}
 use Rattle.volume_store.proofs.Sound.{among_map_from, among_map_to}
 use Rattle.sm_volume.specs.Seen.{block_of, image_of, seen_snapshot, volume_of}
 use Rattle.sm_volume.specs.Mounted.{Mounted, mounted}
-use Rattle.sm_volume.specs.Assigned.{IsLeastFree, HasBlock, written, snapped, without, staying, reverted, IsReverted}
+use Rattle.sm_volume.specs.Assigned.{HasBlock, snapped, staying, IsReverted}
+use Rattle.sm_defs.specs.Operations.{IsLeastFree, written, removed, reverted}
 use Rattle.sm_volume.specs.Refusals.{snapshot_refusal, remove_refusal, write_refusal, read_refusal, revert_refusal, image_seen, unless_seen}
 use Rattle.sm_volume.proofs.BlockLemmas.{bytes_same, volume_used, keeps_others}
 use Rattle.sm_volume.proofs.SeenLemmas.{used_seen, uses_seen, any_seen, has_seen, length_seen, filter_seen, find_seen, up_to_seen, all_images}
@@ -67,7 +68,7 @@ remove_refused c m drops = rw (all_have c m.root.snapshots drops) refl
 pub staying_seen : (c : disk.Image) (drops : List Ident) (ss : List RootSnapshot) → staying drops (map (seen_snapshot c) ss) ≡ map (seen_snapshot c) (store.staying drops ss)
 staying_seen c drops ss = filter_seen c (λ s. not (has_ident drops s.ident)) (λ s. not (has_ident drops s.ident)) (λ s. refl) ss
 
-pub without_seen : (c : disk.Image) (m : Maps) (drops : List Ident) → volume_of [] 0 c (store.without m drops) ≡ without (volume_of [] 0 c m) drops
+pub without_seen : (c : disk.Image) (m : Maps) (drops : List Ident) → volume_of [] 0 c (store.without m drops) ≡ removed (volume_of [] 0 c m) drops
 without_seen c m drops = ap (λ (ss : List Snapshot). let w : Volume = record (volume_of [] 0 c m) { snapshots = ss } in w) (sym (staying_seen c drops m.root.snapshots))
 
 -- revert

@@ -1,35 +1,17 @@
 -- What each call makes of a volume: plain assignments.
-use Rattle.std.specs.Prelude.{◌≡◌, ℕ, suc, ◌*◌, ◌==◌, ◌<◌, ◌≤◌, not, cond, Bool, true, false, List, [], ◌∷◌, ◌++◌, Some, find, slice_set, slice_index, length}
+use Rattle.std.specs.Prelude.{◌≡◌, ℕ, ◌<◌, ◌≤◌, not, cond, Bool, List, [], ◌∷◌, ◌++◌, Some, find, slice_index, length}
 use Rattle.std.specs.List.{filter}
 use Rattle.sm_base.specs.declared.numbers.Ident.{Ident}
-use Rattle.sm_base.specs.declared.numbers.Kind.TheVariants.{Rw, Dp}
-use Rattle.sm_defs.specs.Image.{Block, Image, stands, tags}
-use Rattle.sm_defs.specs.Volume.{Volume, Snapshot, tags_of, images_of}
+use Rattle.sm_defs.specs.Image.{Block, Image, tags}
+use Rattle.sm_defs.specs.Volume.{Volume, Snapshot, images_of}
+use Rattle.sm_defs.specs.Operations.{taken_over, reverted}
+use Rattle.sm_defs.specs.Operations as operations
 use Rattle.sm_defs.specs.Words.{Among, has_ident, same_ident, up_to}
 use Rattle.volume_store.specs.declared.head.Head.{Head}
-
--- the least number that no image of the volume uses
-pub record IsLeastFree (v : Volume) (n : ℕ) : Type 0 where
-  pub from_one : 1 ≤ n
-  pub within : n ≤ v.physical
-  pub unused : stands n (tags_of v) ≡ false
-  pub least : (m : ℕ) → 1 ≤ m → m < n → stands m (tags_of v) ≡ true
 
 -- one of the volume's images has the block
 abbrev pub HasBlock : Volume → Block → Type 0
 HasBlock v b = (image : Image) × Among (images_of v) image × Among image b
-
--- a block at a place of the active image
-abbrev pub written : Volume → ℕ → Block → Volume
-written v at b = record v { active = slice_set v.active at b }
-
--- a consistency point
-abbrev pub settled : Volume → Volume
-settled v = record v { stable = v.active }
-
--- a number of a client's snapshot is used up with it
-abbrev pub next_after : ℕ → Ident → ℕ
-next_after next i = cond (i.seq == 2 * next) (suc next) next
 
 -- what is on a snapshot's label, with an image
 abbrev pub snapshot_of : Head → Image → Snapshot
@@ -37,18 +19,15 @@ snapshot_of h image = record { ident = h.ident; name = h.name; label = h.label; 
 
 -- a consistency point with a snapshot of it behind the others
 abbrev pub snapped : Volume → Head → Volume
-snapped v h = record v { stable = v.active; next = next_after v.next h.ident; snapshots = v.snapshots ++ snapshot_of h v.active ∷ [] }
+snapped v h = operations.snapped v (snapshot_of h v.active)
 
 -- the snapshots that are not among these
 abbrev pub staying : List Ident → List Snapshot → List Snapshot
 staying drops snapshots = filter (λ s. not (has_ident drops s.ident)) snapshots
 
-abbrev pub without : Volume → List Ident → Volume
-without v drops = record v { snapshots = staying drops v.snapshots }
-
 -- the snapshot's image becomes the stable and the active one
 abbrev pub adopted : Volume → Snapshot → ℕ → List Ident → Volume
-adopted v s family drops = record v { family = family; active = s.image; stable = s.image; snapshots = staying drops (v.snapshots ++ s ∷ []) }
+adopted v s family drops = taken_over v s.image family (staying drops (v.snapshots ++ s ∷ []))
 
 -- Which maps can be adopted: each number in range, none twice, and none that a snapshot which stays has at another place.
 pub record CanAdopt (v : Volume) (map : List ℕ) (drops : List Ident) : Type 0 where
@@ -56,14 +35,6 @@ pub record CanAdopt (v : Volume) (map : List ℕ) (drops : List Ident) : Type 0 
   pub within : (i : ℕ) → slice_index map i ≤ v.physical
   pub once : (i j : ℕ) → slice_index map i ≡ slice_index map j → 0 < slice_index map i → i ≡ j
   pub one_place : (s : Snapshot) → Among (staying drops v.snapshots) s → (i j : ℕ) → slice_index map i ≡ slice_index (tags s.image) j → 0 < slice_index map i → i ≡ j
-
--- clients write it
-abbrev pub writable : Volume → Volume
-writable v = record v { kind = Rw }
-
--- a destination with the image of one of its snapshots, and these snapshots
-abbrev pub reverted : Volume → Image → ℕ → List Snapshot → Volume
-reverted v image family snapshots = record v { kind = Dp; family = family; active = image; stable = image; snapshots = snapshots }
 
 -- the image of the snapshot of this identity, with all snapshots or with those up to that one
 abbrev pub IsReverted : Volume → Ident → Bool → ℕ → Volume → Type 0

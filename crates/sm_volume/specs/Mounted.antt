@@ -5,6 +5,7 @@ use Rattle.sm_base.specs.declared.numbers.Side.{Side}
 use Rattle.sm_base.specs.declared.numbers.Side.TheVariants.{Before, After}
 use Rattle.sm_defs.specs.Image.{Block, Image}
 use Rattle.sm_defs.specs.Volume.{Volume, Snapshot}
+use Rattle.sm_defs.specs.Operations as operations
 use Rattle.sm_disk.specs.Disk.{DiskState}
 use Rattle.volume_store.specs.Held.{Held}
 use Rattle.sm_volume.specs.Seen.{volume_of}
@@ -43,7 +44,7 @@ fallen v disk = record v { disk = disk; up = false }
 
 -- as a restart or an opening leaves it: what was written since the last consistency point is lost
 abbrev pub opened : Volume → Volume
-opened v = record v { active = v.stable }
+opened v = operations.opened v
 
 -- the volume of a side of a restart
 abbrev pub of_side : Side → Volume → Option Volume → Option Volume

@@ -3,7 +3,8 @@ ghost use Rattle.std.specs.Prelude.{◌≡◌, true, false, None, Err};
 ghost use Rattle.sm_defs.specs.Volume.{Volume as Plain, has};
 ghost use Rattle.sm_volume.specs.Mounted.{Mounted};
 ghost use Rattle.sm_volume.specs.Seen.{image_of};
-ghost use Rattle.sm_volume.specs.Assigned.{settled, snapped, without, adopted, writable, IsReverted, CanAdopt, snapshot_of};
+ghost use Rattle.sm_volume.specs.Assigned.{snapped, adopted, IsReverted, CanAdopt, snapshot_of};
+ghost use Rattle.sm_defs.specs.Operations.{settled, removed, writable};
 ghost use Rattle.volume_store.specs.Refusals.{Refuses};
 ghost use Rattle.sm_volume.specs.Refusals.{revert_refusal, cp_refusal, snapshot_refusal, remove_refusal, adopt_refusal};
 ghost use Rattle.sm_volume.specs.Commits.{Commits};
@@ -59,7 +60,7 @@ impl<D: Disk> Volume<D> {
         requires up { self.old.up ≡ true }
 
         ensures refused { Refuses (remove_refusal self.old.volume drops.now) result }
-        ensures commits { Commits D.state self.old (without self.old.volume drops.now) result self.new }
+        ensures commits { Commits D.state self.old (removed self.old.volume drops.now) result self.new }
     {
         self.store.remove(alloc, drops)
     }

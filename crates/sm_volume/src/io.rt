@@ -7,7 +7,8 @@ ghost use Rattle.volume_store.specs.Held.{block_at};
 ghost use Rattle.volume_store.specs.Refusals.{RefusesOrFails};
 ghost use Rattle.sm_volume.specs.Mounted.{Mounted, on_disk, fallen};
 ghost use Rattle.sm_volume.specs.Shown.{Selects, KeepsBlocks};
-ghost use Rattle.sm_volume.specs.Assigned.{IsLeastFree, HasBlock, written};
+ghost use Rattle.sm_volume.specs.Assigned.{HasBlock};
+ghost use Rattle.sm_defs.specs.Operations.{IsLeastFree, written};
 ghost use Rattle.sm_volume.specs.Refusals.{write_refusal, read_refusal, image_seen};
 
 use crate::volume::Volume;

@@ -62,6 +62,13 @@ impl<D: Disk> Volume<D> {
         self.store.used()
     }
 
+    /// How often the disk has failed.
+    pub fn faults(&self) -> u64
+        ensures { result ≡ (D.state self.now.disk).faults }
+    {
+        self.store.faults()
+    }
+
     /// The disk.
     pub fn into_disk(self) -> D
         ensures { result ≡ self.disk }

@@ -18,7 +18,8 @@ use Rattle.sm_model.specs.declared.event.Event.TheVariants as events
 use Rattle.step_laws.proofs.Numbered.{Apart}
 use Rattle.step_laws.proofs.TransferNumbers.{same_relation}
 use Rattle.sm_model.specs.Origin.{made_by}
-use Rattle.sm_model.specs.OfVolumes.{client_ident, snapped, with_snapshot, client_snapshot}
+use Rattle.sm_defs.specs.Operations.{with_snapshot}
+use Rattle.sm_model.specs.OfVolumes.{client_ident, snapped, client_snapshot}
 use Rattle.sm_model.specs.Running.{Running, IsRunning}
 use Rattle.sm_model.specs.Steps.{Effect, reverted, arrived, published, prepared_snapshot}
 use Rattle.sm_model.specs.Due.{StepKind, reserved_leg, IsEffect, IsStep, by_transfer, by_tidy, is_tidied, tidy_due, goes}

@@ -40,18 +40,18 @@ restart_progress : (w : Up) → Progress (restart_deed w)
 restart_progress w = brought_progress (restart_deed w) (restart_brings w) (growing.grown_same w) (λ r t m e z k. k)
 
 -- up, or down with a deed that would go on from a sound world
-abbrev Ready : Up → List Deed → World → Type 0
+abbrev pub Ready : Up → List Deed → World → Type 0
 Ready start ds (up w) = Along start ds w
 Ready start ds (down disk d) = Along start ds d.old × (SoundUp d.old → Progress d)
 
 -- what a deed makes had no origin before it
-abbrev MadeOnce : Up → List Deed → List Deed → Type 0
+abbrev pub MadeOnce : Up → List Deed → List Deed → Type 0
 MadeOnce start before [] = Unit {0}
 MadeOnce start before (d ∷ ds) = ((i : Ident) → makes i d ≡ true → origin start before i ≡ None) × MadeOnce start (before ++ d ∷ []) ds
 
-record LeadsOn (start : Up) (before ds : List Deed) (new : World) : Type 0 where
-  ready : Ready start (before ++ ds) new
-  once : MadeOnce start before ds
+pub record LeadsOn (start : Up) (before ds : List Deed) (new : World) : Type 0 where
+  pub ready : Ready start (before ++ ds) new
+  pub once : MadeOnce start before ds
 
 append_none : {X : Type 0} (xs : List X) → xs ++ [] ≡ xs
 append_none [] = refl
@@ -63,7 +63,7 @@ no_deed start before new r = record { ready = subst (λ ds. Ready start ds new) 
 one_deed : (start : Up) (before : List Deed) (d : Deed) → Along start before d.old → Progress d → LeadsOn start before (d ∷ []) (up d.new)
 one_deed start before d a p = record { ready = along_deed start before d a p; once = (λ i m. made_unknown start before d i a p m, tt) }
 
-of_entry : (start : Up) (before : List Deed) {old new : World} {e : Entry} {sides left : List Side} {ds : List Deed} → Fits old e sides ds new left → Ready start before old → BeginSound ds → LeadsOn start before ds new
+pub of_entry : (start : Up) (before : List Deed) {old new : World} {e : Entry} {sides left : List Side} {ds : List Deed} → Fits old e sides ds new left → Ready start before old → BeginSound ds → LeadsOn start before ds new
 of_entry start before (runs.done {e = e} d o a b c i) r h = one_deed start before d (subst (Along start before) (sym o) r) (deed_progress e.event d h.0 i)
 of_entry start before (runs.quiet i) r h = no_deed start before _ r
 of_entry start before (runs.failed {e = e} d disk count o a b i c g) r h = no_deed start before (down disk.0 d) (subst (Along start before) (sym o) r, λ s. deed_progress e.event d s i)

@@ -12,7 +12,7 @@ use Rattle.sm_defs.specs.Relationship.{Relationship, Transfer}
 use Rattle.sm_defs.specs.Legs.{made_ident}
 use Rattle.sm_defs.specs.World.{Up, volume_at, relation_at, with_relation, no_relation}
 use Rattle.sm_model.specs.OfTransfers.{with_transfer, without_transfer}
-use Rattle.sm_model.specs.OfVolumes.{with_snapshot}
+use Rattle.sm_defs.specs.Operations.{with_snapshot}
 use Rattle.sm_model.specs.Running.{Running, IsRunning}
 use Rattle.sm_model.specs.Steps.{Effect, with_destination, interrupted, reverted, prepared_snapshot, published}
 use Rattle.sm_model.specs.Due.{StepKind, IsEffect, IsStep, by_transfer, by_tidy, reserved_leg, settled_relation, goes, is_tidied}
@@ -32,7 +32,7 @@ use Rattle.step_laws.proofs.CrossedParts.{dest_key, Apart, to_apart, keys_fewer,
 -- ---- one relationship changes
 
 -- its destination is the same, and so is its transfer's number, where it has one still
-apart_set : (w : Up) (k : ℕ) (r q : Relationship) → relation_at w k ≡ r → dest_key q ≡ dest_key r → (transfer_number q ≡ transfer_number r) ⊎ (transfer_number q ≡ None) → Apart w.relations → Apart (slice_set w.relations k q)
+pub apart_set : (w : Up) (k : ℕ) (r q : Relationship) → relation_at w k ≡ r → dest_key q ≡ dest_key r → (transfer_number q ≡ transfer_number r) ⊎ (transfer_number q ≡ None) → Apart w.relations → Apart (slice_set w.relations k q)
 apart_set w k r q at d n a = record { destinations = subst (KeysDiffer (λ (m : ℕ). m)) (sym (keys_same dest_key w.relations k q (λ x e. d ∙ ap dest_key (here x e)))) a.destinations; transfers = go n }
   where
     here : (x : Relationship) → slice_get w.relations k ≡ Some x → r ≡ x
@@ -42,7 +42,7 @@ apart_set w k r q at d n a = record { destinations = subst (KeysDiffer (λ (m : 
     go (inl e) = subst (KeysDiffer (λ (m : ℕ). m)) (sym (keys_same transfer_number w.relations k q (λ x f. e ∙ ap transfer_number (here x f)))) a.transfers
     go (inr e) = thinned_differ (λ (m : ℕ). m) (keys_fewer transfer_number w.relations k q e) a.transfers
 
-relation_set : (w : Up) (k : ℕ) (q : Relationship) → Crossed w → CrossedRelation w q → ((t : Transfer) → q.transfer ≡ Some t → CrossedTransfer w q t) → Apart (slice_set w.relations k q) → Crossed (with_relation w k q)
+pub relation_set : (w : Up) (k : ℕ) (q : Relationship) → Crossed w → CrossedRelation w q → ((t : Transfer) → q.transfer ≡ Some t → CrossedTransfer w q t) → Apart (slice_set w.relations k q) → Crossed (with_relation w k q)
 relation_set w k q c o h a = crossed_list w w.next_relation w.next_transfer (slice_set w.relations k q) (λ r m. relation r (among_set w.relations k q r m)) (λ r t m. transfer r t (among_set w.relations k q r m)) a
   where
     relation : (r : Relationship) → (r ≡ q) ⊎ Among w.relations r → CrossedRelation w r

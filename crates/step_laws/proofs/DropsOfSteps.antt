@@ -9,14 +9,15 @@ use Rattle.sm_defs.specs.Volume.{Volume, Snapshot, no_volume, ident_of, has, wit
 use Rattle.sm_defs.specs.Relationship.{Relationship, Transfer, is_mirror}
 use Rattle.sm_defs.specs.Retention.{retained, keeps}
 use Rattle.sm_defs.specs.Needed.{needed}
-use Rattle.sm_defs.specs.World.{Up, volume_at, with_volume}
-use Rattle.sm_model.specs.Formed.{NumbersAscend}
+use Rattle.sm_defs.specs.World.{Up, volume_at, policy_at, with_volume, no_policy}
+use Rattle.sm_defs.specs.Legs.{has_rule}
+use Rattle.sm_model.specs.Formed.{NumbersAscend, FormedPolicy}
 use Rattle.sm_model.specs.Sound.{SoundUp}
 use Rattle.sm_model.specs.OfTransfers.{past}
 use Rattle.sm_model.specs.Drops.{NamedAt, NamedByRevert, NamedByPrune, NamedByRetention, NamedByTidy, NamedByStep}
 use Rattle.sm_model.specs.Running.{Running, running_in, IsRunning}
 use Rattle.sm_base.specs.declared.refusal.Reason.{Reason}
-use Rattle.sm_model.specs.OfVolumes.{with_snapshot}
+use Rattle.sm_defs.specs.Operations.{with_snapshot}
 use Rattle.sm_model.specs.Steps.{Effect, interrupts, number_of, with_destination, with_progress, reverted, arrived, published, list_published, snapshot_of, prepared_snapshot, cost}
 use Rattle.sm_model.specs.Due.{StepKind, reserved_leg, IsEffect, IsStep, by_transfer, by_tidy, is_tidied, goes, finish_effect, settle_effect, checkpoint_effect, tidy_effect, insert_landed}
 use Rattle.transfer_laws.proofs.Lists.{copy_from_has, has_from_copy, among_append, among_left}
@@ -28,6 +29,7 @@ use Rattle.step_laws.proofs.DueCases.{Ahead, IsDue, due_revert, due_finish, due_
 use Rattle.step_laws.proofs.Brings.{tidy_within}
 use Rattle.step_laws.proofs.Leaving.{Lost, KeepsAll, none_lost, lost_there, lost_here, without_lost, goes_lost, after_lost, lost_after, last_kept}
 use Rattle.step_laws.proofs.DropsOfEvents.{one_more}
+use Rattle.step_laws.proofs.RulesKeep.{keeps_newest}
 
 abbrev Exact : Up → Effect → Type 0
 Exact w e = (v : ℕ) (i : Ident) → Lost w e.world v i ↔ NamedByStep w e.reply v i
@@ -102,12 +104,16 @@ differ_there w k x s r = (s.tags_fit x.destination (destination_stands w k x r s
 
 -- ---- Publish
 
+-- a rule keeps at least one, so the leg is kept where it is the newest
 leg_kept : (w : Up) (k : ℕ) (x : Running) (leg : Snapshot) → SoundUp w → IsRunning w k x → Ahead x leg → is_mirror x.policy.kind ≡ false → keeps x.policy.rules (needed w x.relation.destination) (arrived x leg) [] ≡ true
 leg_kept w k x leg s r a m =
     let p = snapshot_is x.source.snapshots a.i leg a.source in
-    let kept = s.legs_kept x.relation x.transfer (relation_stands w k x r) r.transfer (subst (λ y. is_mirror y.policy.kind ≡ false) r.is m) leg
+    let here = relation_stands w k x r in
+    let kept = (s.legs_kept x.relation x.transfer here r.transfer (subst (λ y. is_mirror y.policy.kind ≡ false) r.is m)).rules leg
     (subst (Among x.transfer.legs) (sym p.1) (subst (λ is. Among is a.i) (sym a.legs) (inl refl))) (subst (λ y. Among y.snapshots leg) (ap (λ y. y.source) r.is) p.0) in
-    subst (λ y. keeps y.policy.rules (needed w x.relation.destination) leg [] ≡ true) (sym r.is) kept
+    keeps_newest x.policy (needed w x.relation.destination) (arrived x leg)
+    (subst FormedPolicy (sym (ap (λ y. y.policy) r.is)) (s.formed.policies (policy_at w x.relation.policy) (among_get_or w.policies x.relation.policy no_policy (s.crossed.relations x.relation here).policy)))
+    (subst (λ y. has_rule y.policy.rules leg ≡ true) (sym r.is) kept)
 
 has_pushed : (ss : List Snapshot) (s : Snapshot) (i : Ident) → has ss i ≡ true → has (ss ++ s ∷ []) i ≡ true
 has_pushed ss s i h = let (t, m, q) = copy_from_has ss i h in has_from_copy (ss ++ s ∷ []) i (t, among_left ss (s ∷ []) t m, q)

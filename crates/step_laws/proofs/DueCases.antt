@@ -16,6 +16,7 @@ pub record Ahead (x : Running) (leg : Snapshot) : Type 0 where
   pub lacks : has x.destination.snapshots i ≡ false
   pub source : snapshot_of x.source.snapshots (Some i) ≡ Some leg
   pub stays : is_reverting x ≡ false
+  pub made : lacks_reserved x ≡ false
 
 pub data IsDue (x : Running) : StepKind → Type 0 where
   due_revert : (base : Snapshot) → is_reverting x ≡ true → snapshot_of x.destination.snapshots x.relation.base ≡ Some base → IsDue x (revert base)
@@ -34,18 +35,18 @@ of_leg x leg a false true c d e f = due_publish leg a d e
 of_leg x leg a false false true d e f = due_checkpoint leg a d e f
 of_leg x leg a false false false d e f = due_ship leg a d e f
 
-of_source : (x : Running) (kind : StepKind) → is_reverting x ≡ false → (i : Ident) (later : List Ident) (o : Option Snapshot) → x.transfer.legs ≡ i ∷ later → has x.destination.snapshots i ≡ false →
+of_source : (x : Running) (kind : StepKind) → is_reverting x ≡ false → (i : Ident) (later : List Ident) (o : Option Snapshot) → x.transfer.legs ≡ i ∷ later → has x.destination.snapshots i ≡ false → lacks_reserved x ≡ false →
     snapshot_of x.source.snapshots (Some i) ≡ o → kind_at_source x o ≡ Some kind → IsDue x kind
-of_source x kind n i later None e h f g = absurd (cc)
-of_source x kind n i later (Some leg) e h f g = subst (IsDue x) (same_Some _ kind g)
-    (of_leg x leg (record { i = i; later = later; legs = e; lacks = h; source = f; stays = n }) (is_unpruned x) (all_landed x (cost x leg)) (at_checkpoint x (cost x leg)) refl refl refl)
+of_source x kind n i later None e h z f g = absurd (cc)
+of_source x kind n i later (Some leg) e h z f g = subst (IsDue x) (same_Some _ kind g)
+    (of_leg x leg (record { i = i; later = later; legs = e; lacks = h; source = f; stays = n; made = z }) (is_unpruned x) (all_landed x (cost x leg)) (at_checkpoint x (cost x leg)) refl refl refl)
 
 of_first : (x : Running) (kind : StepKind) → is_reverting x ≡ false → (i : Ident) (later : List Ident) (b l : Bool) → x.transfer.legs ≡ i ∷ later → has x.destination.snapshots i ≡ b → lacks_reserved x ≡ l →
     cond b (Some (settle i later)) (cond l (Some (prepare (reserved_leg x))) (kind_at_source x (snapshot_of x.source.snapshots (Some i)))) ≡ Some kind → IsDue x kind
 of_first x kind n i later true l e h f g = subst (IsDue x) (same_Some _ kind g) (due_settle i later e h)
 of_first x kind n i later false true e h f g =
     let p = and_parts x.transfer.reserved (not (has x.source.snapshots (reserved_leg x))) f in subst (IsDue x) (same_Some _ kind g) (due_prepare p.0 (not-true _ p.1))
-of_first x kind n i later false false e h f g = of_source x kind n i later _ e h refl g
+of_first x kind n i later false false e h f g = of_source x kind n i later _ e h f refl g
 
 of_finishing : (x : Running) (kind : StepKind) → x.transfer.legs ≡ [] → (o : Option Ident) → x.relation.base ≡ o → kind_finishing o ≡ Some kind → IsDue x kind
 of_finishing x kind e None f g = absurd (cc)

@@ -15,7 +15,7 @@ use Rattle.sm_defs.specs.Volume.{Volume, Snapshot, ident_of, has, free_tags, no_
 use Rattle.sm_defs.specs.Relationship.{is_mirror}
 use Rattle.sm_defs.specs.World.{Up, volume_at, with_volume}
 use Rattle.sm_model.specs.World.{Deed}
-use Rattle.sm_model.specs.OfVolumes.{with_snapshot}
+use Rattle.sm_defs.specs.Operations.{with_snapshot}
 use Rattle.sm_model.specs.Answer.{answer}
 use Rattle.sm_model.specs.Running.{Running, IsRunning}
 use Rattle.sm_model.specs.Steps.{Effect, with_destination, family_of_transfer, reverted, prepared_snapshot, bases, arrived, is_elsewhere, published}

@@ -1,5 +1,5 @@
 -- What each event answers is a world that is formed.
-use Rattle.std.proofs.Common.{◌≡◌, ◌≢◌, ◌==◌, ◌≤◌, ◌<◌, ◌||◌, ℕ, suc, Bool, true, false, cond, List, [], ◌∷◌, length, Option, Some, None, Ok, ap, sym, subst, ◌∙◌, refl, arith}
+use Rattle.std.proofs.Common.{◌≡◌, ◌≢◌, ◌==◌, ◌≤◌, ◌<◌, ◌||◌, ◌^◌, ℕ, suc, Bool, true, false, cond, List, [], ◌∷◌, length, Option, Some, None, Ok, ap, sym, subst, ◌∙◌, refl, arith}
 use Rattle.std.proofs.lemmas.Bool.{eqb-false, or_parts}
 use Rattle.std.proofs.lemmas.Option.{same_Some}
 use Rattle.sm_base.specs.Name.{is_part, is_label}
@@ -10,9 +10,9 @@ use Rattle.sm_base.specs.declared.numbers.PolicyKind.{PolicyKind}
 use Rattle.sm_base.specs.declared.numbers.TransferKind.{TransferKind}
 use Rattle.sm_base.specs.declared.numbers.TransferKind.TheVariants.{Initialize, Update, Resync}
 use Rattle.sm_defs.specs.Limits.{most_volumes, most_policies, most_relations, most_snapshots, most_rules, last_number, last_relation, last_second}
-use Rattle.sm_defs.specs.Words.{Found}
+use Rattle.sm_defs.specs.Words.{Among, Found}
 use Rattle.sm_defs.specs.Edges.{is_empty}
-use Rattle.sm_defs.specs.Volume.{Snapshot, used, has, no_volume, new_volume}
+use Rattle.sm_defs.specs.Volume.{Volume, Snapshot, used, has, no_volume, new_volume}
 use Rattle.sm_defs.specs.Relationship.{Relationship, Transfer}
 use Rattle.sm_defs.specs.World.{Up, volume_at, policy_at, relation_at, with_relation, no_policy}
 use Rattle.sm_model.specs.declared.event.Event.{Event}
@@ -30,13 +30,15 @@ use Rattle.sm_model.specs.Sound.{SoundUp}
 use Rattle.step_laws.proofs.Walk.{OfOk, past, with_found, with_ok, with_held, with_target, whether_so, now}
 use Rattle.step_laws.proofs.Members.{found_among, found_at, among_get_or}
 use Rattle.step_laws.proofs.Thinned.{filter_thins}
-use Rattle.step_laws.proofs.Changes.{RelationAt}
+use Rattle.step_laws.proofs.Changes.{VolumeAt, RelationAt}
 use Rattle.step_laws.proofs.Plainly.{volume_at_place, relation_at_place}
 use Rattle.step_laws.proofs.OfVolumeEvents.{named_at_place}
 use Rattle.step_laws.proofs.OfRelationEvents.{released_at, filled}
 use Rattle.step_laws.proofs.OfAnswer.{OfAnswer}
 use Rattle.step_laws.proofs.Deeds.{from_answer}
 use Rattle.step_laws.proofs.Room.{none_free}
+use Rattle.step_laws.proofs.Bases.{goes_there}
+use Rattle.step_laws.proofs.NearLeg.{prefix_near_leg}
 use Rattle.step_laws.proofs.Tests.{no_such_path, no_such_disk, no_such_name, below_bound}
 use Rattle.step_laws.proofs.Shapes.{formed_pointed, formed_thinned, formed_written, formed_writable, formed_taken, formed_counted, formed_new}
 use Rattle.step_laws.proofs.FormedParts.{formed_policy, formed_with_rule, formed_carried, formed_running, formed_stopped, formed_settled, formed_new_transfer}
@@ -52,17 +54,17 @@ create_volume w path disk kind l p s g = past _ _ _ _ (λ a. past _ _ _ _ (λ _.
     (formed_push w (new_volume path disk.0 kind (length w.volumes) l p) (below_bound (length w.volumes) most_volumes s.formed.few c) (no_such_path w.volumes path a) (no_such_disk w.volumes disk.0 b) s.formed
     (formed_new path disk.0 kind (length w.volumes) l p g))))))))
 
-write : (w : Up) (path : List ℕ) (block fill : ℕ) → SoundUp w → OfOk IsFormed (volumes.write w path block fill)
-write w path block fill s = with_found _ _ _ _ (λ v is. past _ _ _ _ (λ _. past _ _ _ _ (λ _. past _ _ _ _ (λ c. let a = volume_at_place w _ v is in now IsFormed _
+write : (w : Up) (path : List ℕ) (block fill : ℕ) → SoundUp w → fill ≤ 255 → OfOk IsFormed (volumes.write w path block fill)
+write w path block fill s g = with_found _ _ _ _ (λ v is. past _ _ _ _ (λ _. past _ _ _ _ (λ _. past _ _ _ _ (λ c. let a = volume_at_place w _ v is in now IsFormed _
     (formed_at w v.at _ (ap path_of (sym a.at)) (ap disk_of (sym a.at)) s.formed
-    (formed_written v.item block fill (λ z. eqb-false (used v.item) v.item.physical c (none_free v.item (s.tags_fit v.item a.among) z)) (s.formed.volumes v.item a.among)))))))
+    (formed_written v.item block fill (λ z. eqb-false (used v.item) v.item.physical c (none_free v.item (s.tags_fit v.item a.among) z)) g (s.formed.volumes v.item a.among)))))))
 
 snap : (w : Up) (path name : List ℕ) (label : Option (List ℕ)) → SoundUp w → IsSnap path name label → OfOk IsFormed (volumes.snap w path name label)
 snap w path name label s g = with_found _ _ _ _ (λ v is. past _ _ _ _ (λ _. past _ _ _ _ (λ _. past _ _ _ _ (λ c. let a = volume_at_place w _ v is in
     let q = or_parts (length v.item.snapshots == most_snapshots) (v.item.next == last_number) c in let f = s.formed.volumes v.item a.among in now IsFormed _
     (formed_at w v.at _ (ap path_of (sym a.at)) (ap disk_of (sym a.at)) s.formed
     (formed_counted _ (below_bound v.item.next last_number f.counted.1 q.1)
-    (formed_taken v.item (volumes.client_snapshot v.at w.clock v.item name label) refl (record { name = g.name_given; label = g.label_given }) (below_bound (length v.item.snapshots) most_snapshots f.few q.0) f)))))))
+    (formed_taken v.item (volumes.client_snapshot v.at w.clock v.item name label) refl (record { name = g.name_given; label = g.label_given; time = let l = s.formed.clock in omega (arith, l) }) (below_bound (length v.item.snapshots) most_snapshots f.few q.0) f)))))))
 
 unsnap : (w : Up) (path name : List ℕ) → SoundUp w → OfOk IsFormed (volumes.unsnap w path name)
 unsnap w path name s = with_ok _ _ _ (λ v is. with_ok _ _ _ (λ t _. past _ _ _ _ (λ _. with_held _ _ _ (λ _. let a = named_at_place w path v is in now IsFormed _
@@ -148,7 +150,7 @@ resume_or_start : (w : Up) (r : Found Relationship) (kind : TransferKind) (t : O
 unfolding transfers.resume_or_start
 resume_or_start w r kind (Some t) s a e = let f = s.formed.relations r.item a.among in now IsFormed _ (relation_set w r.at _ (number_at a) s.formed (record {
   half = f.half;
-  transfer = only_transfer _ (transfers.resumed t) refl (formed_running r.item _ t (transfers.resumed t) (record { source = refl; number = refl; reserved = refl; legs = refl }) refl (f.transfer t e));
+  transfer = only_transfer _ (transfers.resumed t) refl (formed_running r.item _ t (transfers.resumed t) (record { source = refl; number = refl; reserved = refl; legs = refl }) refl (f.transfer t e).checkpoint (f.transfer t e));
 }))
 resume_or_start w r kind None s a e = start_it w r kind s a
 
@@ -177,15 +179,32 @@ settled_formed there r t (i ∷ is) e l f = go (has there i)
 left_legs : (hard : Bool) (is : List Ident) → (hard || is_empty is) ≡ false → is ≢ []
 left_legs hard is e = filled is (or_parts hard (is_empty is) e).1
 
+-- what landed without a gap is not past the leg
+halted_near : (w : Up) (r : Relationship) (t : Transfer) (there : List Snapshot) → SoundUp w → Among w.relations r → r.transfer ≡ Some t → (volume_at w r.destination).snapshots ≡ there →
+    (transfers.transfer_or t (transfers.settled_if_there there r t t.legs).transfer).legs ≢ [] → transfers.landed_prefix (transfers.transfer_or t (transfers.settled_if_there there r t t.legs).transfer).landed < 2 ^ 32
+halted_near w r t there s m e h = go t.legs refl
+  where
+    by : (i : Ident) (is : List Ident) → t.legs ≡ i ∷ is → (b : Bool) → has there i ≡ b → transfers.landed_prefix (transfers.transfer_or t (cond b (transfers.settled r t i is) r).transfer).landed < 2 ^ 32
+    by i is l true f = omega arith
+    by i is l false f = rw (ap (λ o. transfers.landed_prefix (transfers.transfer_or t o).landed) e) (prefix_near_leg w r t i is s m e l (rw h f))
+
+    go : (is : List Ident) → t.legs ≡ is → (transfers.transfer_or t (transfers.settled_if_there there r t is).transfer).legs ≢ [] → transfers.landed_prefix (transfers.transfer_or t (transfers.settled_if_there there r t is).transfer).landed < 2 ^ 32
+    go [] l n = absurd (n (ap (λ o. (transfers.transfer_or t o).legs) e ∙ l))
+    go (i ∷ is) l n = by i is l (has there i) refl
+
+same_there : (w : Up) (v : Found Volume) (r : Relationship) → VolumeAt w v → r.destination ≡ v.at → (volume_at w r.destination).snapshots ≡ v.item.snapshots
+same_there w v r a to = ap (λ i. (volume_at w i).snapshots) to ∙ ap (λ y. y.snapshots) a.at
+
 abort : (w : Up) (d : List ℕ) (hard : Bool) → SoundUp w → OfOk IsFormed (transfers.abort w d hard)
-abort w d hard s = with_target _ _ _ _ (λ d _ is. with_found _ _ _ _ (λ t e. past _ _ _ _ (λ _.
+abort w d hard s = with_target _ _ _ _ (λ d at is. with_found _ _ _ _ (λ t e. past _ _ _ _ (λ _.
     let a = relation_at_place w _ d.relation is in let f = s.formed.relations d.relation.item a.among in
     let k = settled_formed d.destination.item.snapshots d.relation.item t t.legs e refl (f.transfer t e) in
     whether_so _ _ _ _ (λ _. now IsFormed _ (relation_set w d.relation.at _ (k.number ∙ number_at a) s.formed (record { half = k.half ∙ f.half; transfer = λ u g. absurd (cc) })))
     (λ m. now IsFormed _ (relation_set w d.relation.at _ (k.number ∙ number_at a) s.formed (record {
       half = k.half ∙ f.half;
       transfer = only_transfer _ _ refl
-          (formed_stopped _ _ _ _ (record { source = refl; number = refl; reserved = refl; legs = refl }) refl refl (k.transfer (left_legs hard _ m)));
+          (formed_stopped _ _ _ _ (record { source = refl; number = refl; reserved = refl; legs = refl }) refl refl
+          (halted_near w d.relation.item t d.destination.item.snapshots s a.among e (same_there w d.destination d.relation.item (volume_at_place w _ d.destination at) (goes_there w _ d.relation is)) (left_legs hard _ m)) (k.transfer (left_legs hard _ m)));
     }))))))
 
 resync : (w : Up) (d : List ℕ) → SoundUp w → OfOk IsFormed (transfers.resync w d)
@@ -198,7 +217,7 @@ pub of_answer : (w : Up) (e : Event) → SoundUp w → IsGiven e → OfAnswer Is
 unfolding answer OfAnswer IsGiven
 of_answer w (events.CreateVolume path disk kind logical physical) s g = create_volume w path disk kind logical physical s g
 of_answer w events.ShowVolumes s g = now IsFormed _ s.formed
-of_answer w (events.Write path block fill) s g = write w path block fill s
+of_answer w (events.Write path block fill) s g = write w path block fill s g.byte
 of_answer w (events.Snap path name label) s g = snap w path name label s g
 of_answer w (events.Unsnap path name) s g = unsnap w path name s
 of_answer w (events.ShowSnaps path) s g = with_found _ _ _ _ (λ v _. now IsFormed _ s.formed)

@@ -1,5 +1,5 @@
 -- Changed policies and transfers are formed.
-use Rattle.std.proofs.Common.{◌≡◌, ◌≢◌, ◌==◌, ◌<◌, ◌≤◌, ℕ, suc, Bool, true, false, not, List, [], ◌∷◌, ◌++◌, length, append_assoc, append-nil, Option, Some, None, refl, sym, ap, subst, ◌∙◌, inl, inr, cond, arith}
+use Rattle.std.proofs.Common.{◌≡◌, ◌≢◌, ◌==◌, ◌<◌, ◌≤◌, ◌^◌, ℕ, suc, Bool, true, false, not, List, [], ◌∷◌, ◌++◌, length, append_assoc, append-nil, Option, Some, None, refl, sym, ap, subst, ◌∙◌, inl, inr, cond, arith}
 use Rattle.std.specs.Option.{is_some}
 use Rattle.std.specs.List.{filter}
 use Rattle.std.proofs.lemmas.List.{length-append}
@@ -86,15 +86,15 @@ reserved_last r q t u c f e = let (earlier, i) = f.reserved (sym c.reserved ∙ 
     (earlier, c.legs ∙ (i ∙ ap (λ j. earlier ++ j ∷ []) (rw (c.source, c.number) refl)))
 
 pub formed_carried : (r q : Relationship) (t : Transfer) → q.source ≡ r.source → FormedTransfer r t → FormedTransfer q t
-formed_carried r q t e f = record { unpruned = f.unpruned; landed = f.landed; reserved = reserved_last r q t t (record { source = e; number = refl; reserved = refl; legs = refl }) f; few = f.few }
+formed_carried r q t e f = record { unpruned = f.unpruned; landed = f.landed; reserved = reserved_last r q t t (record { source = e; number = refl; reserved = refl; legs = refl }) f; few = f.few; checkpoint = f.checkpoint }
 
 -- it runs
-pub formed_running : (r q : Relationship) (t u : Transfer) → Continues r q t u → u.stopped ≡ None → FormedTransfer r t → FormedTransfer q u
-formed_running r q t u c e f = record { unpruned = λ n. absurd (n e); landed = λ n. absurd (n e); reserved = reserved_last r q t u c f; few = rw (c.legs) f.few }
+pub formed_running : (r q : Relationship) (t u : Transfer) → Continues r q t u → u.stopped ≡ None → u.checkpoint < 2 ^ 32 → FormedTransfer r t → FormedTransfer q u
+formed_running r q t u c e l f = record { unpruned = λ n. absurd (n e); landed = λ n. absurd (n e); reserved = reserved_last r q t u c f; few = rw (c.legs) f.few; checkpoint = l }
 
 -- it does not run, and has landed what its checkpoint says
-pub formed_stopped : (r q : Relationship) (t u : Transfer) → Continues r q t u → u.pruned ≡ false → u.landed ≡ numbers 0 u.checkpoint → FormedTransfer r t → FormedTransfer q u
-formed_stopped r q t u c e i f = record { unpruned = λ n. e; landed = λ n. i; reserved = reserved_last r q t u c f; few = rw (c.legs) f.few }
+pub formed_stopped : (r q : Relationship) (t u : Transfer) → Continues r q t u → u.pruned ≡ false → u.landed ≡ numbers 0 u.checkpoint → u.checkpoint < 2 ^ 32 → FormedTransfer r t → FormedTransfer q u
+formed_stopped r q t u c e i l f = record { unpruned = λ n. e; landed = λ n. i; reserved = reserved_last r q t u c f; few = rw (c.legs) f.few; checkpoint = l }
 
 -- ---- legs
 
@@ -169,6 +169,7 @@ formed_new_transfer q n kind p base s there e h = record {
   landed = λ i. absurd (i refl);
   reserved = λ m. subst (λ j. (earlier : List Ident) × ((legs n p base s there).idents ≡ earlier ++ made_ident j n ∷ [])) e (last_of_legs n p base s there m);
   few = few_legs n p base s there h;
+  checkpoint = omega arith;
 }
 
 same_tail : (x y : Ident) (xs ys : List Ident) → ◌≡◌ {A = List Ident} (x ∷ xs) (y ∷ ys) → xs ≡ ys
@@ -186,4 +187,5 @@ formed_settled r t i later e n f = record {
   landed = λ m. refl;
   reserved = λ m. let (earlier, g) = f.reserved m in later_reserved i later (made_ident r.source t.number) n (earlier, sym e ∙ g);
   few = let h : length t.legs ≤ suc most_snapshots = f.few in let k : length t.legs ≡ length (i ∷ later) = ap length e in omega arith;
+  checkpoint = omega arith;
 }

@@ -41,7 +41,7 @@ not_lacking true false e f = absurd (cc)
 not_lacking false b e f = absurd (cc)
 
 -- a leg is on the source, but for a reserved one
-leg_there : (w : Up) (k : ℕ) (x : Running) (i : Ident) → SoundUp w → IsRunning w k x → Among x.transfer.legs i → lacks_reserved x ≡ false → has x.source.snapshots i ≡ true
+pub leg_there : (w : Up) (k : ℕ) (x : Running) (i : Ident) → SoundUp w → IsRunning w k x → Among x.transfer.legs i → lacks_reserved x ≡ false → has x.source.snapshots i ≡ true
 leg_there w k x i s r m e = go ((s.crossed.transfers x.relation x.transfer (relation_stands w k x r) r.transfer).legs_at_source i m)
   where
     go : (has (Rattle.sm_defs.specs.World.volume_at w x.relation.source).snapshots i ≡ true) ⊎ IsReservedLeg x.relation x.transfer i → has x.source.snapshots i ≡ true

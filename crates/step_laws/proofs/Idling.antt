@@ -53,7 +53,7 @@ is_among_running w k x r e = none_runs 0 w.relations k e r.place (ap runs r.stan
 
 -- ---- the program finds a step where one is due
 
-in_window : (w : Up) (k : ℕ) (x : Running) → SoundUp w → IsRunning w k x → InWindow x.transfer
+pub in_window : (w : Up) (k : ℕ) (x : Running) → SoundUp w → IsRunning w k x → InWindow x.transfer
 in_window w k x s r = (s.legs_fit x.relation x.transfer (relation_stands w k x r) r.transfer).window r.runs
 
 ships : (w : Up) (a k : ℕ) (x : Running) (leg : Snapshot) → SoundUp w → IsRunning w k x → IsDue x (ship leg) → (o : Option ℕ) → taken a (shippable x (cost x leg)) ≡ o → shipped w k x leg o ≡ None → ⊥

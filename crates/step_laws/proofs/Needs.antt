@@ -38,7 +38,7 @@ push_within [] y d i h = absurd (omega arith)
 push_within (x ∷ xs) y d zero h = refl
 push_within (x ∷ xs) y d (suc i) h = push_within xs y d i (omega arith)
 
-beyond : {X : Type 0} (xs : List X) (d : X) (i : ℕ) → length xs ≤ i → slice_index_or xs i d ≡ d
+pub beyond : {X : Type 0} (xs : List X) (d : X) (i : ℕ) → length xs ≤ i → slice_index_or xs i d ≡ d
 beyond [] d i h = refl
 beyond (x ∷ xs) d zero h = absurd (omega arith)
 beyond (x ∷ xs) d (suc i) h = beyond xs d i (omega arith)
@@ -64,6 +64,10 @@ pub mapped_at : {X : Type 0} (f : X → X) (xs : List X) (d : X) (i : ℕ) → i
 mapped_at f [] d i h = absurd (omega arith)
 mapped_at f (x ∷ xs) d zero h = refl
 mapped_at f (x ∷ xs) d (suc i) h = mapped_at f xs d i (omega arith)
+
+pub mapped_length : {X : Type 0} (f : X → X) (xs : List X) → length (map f xs) ≡ length xs
+mapped_length f [] = refl
+mapped_length f (x ∷ xs) = ap suc (mapped_length f xs)
 
 -- a snapshot that does not go is there still
 pub without_keeps : (goes : Snapshot → Bool) (v : Volume) (i : Ident) → has v.snapshots i ≡ true → ((s : Snapshot) → s.ident ≡ i → goes s ≡ false) → has (without goes v).snapshots i ≡ true

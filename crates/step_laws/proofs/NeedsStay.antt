@@ -1,5 +1,5 @@
 -- No answer and no step drops what is needed.
-use Rattle.std.proofs.Common.{◌≡◌, ◌⊎◌, ℕ, Bool, true, false, cond, List, [], ◌∷◌, ◌++◌, Option, Some, None, Ok, refl, sym, ap, subst, ◌∙◌, inl, inr}
+use Rattle.std.proofs.Common.{◌≡◌, ◌⊎◌, ◌<◌, ◌≤◌, ℕ, Bool, true, false, cond, List, [], ◌∷◌, ◌++◌, map, length, Option, Some, None, Ok, refl, sym, ap, subst, ◌∙◌, inl, inr}
 use Rattle.std.proofs.lemmas.Bool.{and_left, and_right, not_from_true, both_ways, false_from_ne_true}
 use Rattle.sm_base.specs.declared.numbers.Ident.{Ident}
 use Rattle.sm_model.specs.declared.event.Event.{Event}
@@ -26,7 +26,7 @@ use Rattle.step_laws.proofs.Changes as answers
 use Rattle.step_laws.proofs.Changes.{IsChange, IsAnswer, Is}
 use Rattle.step_laws.proofs.OfAnswer.{of_answer}
 use Rattle.step_laws.proofs.Deeds.{IsAnswered, from_answer, deed_cases}
-use Rattle.step_laws.proofs.Needs.{keeps_set, push_within, has_within, mapped_at, without_keeps, split_at, no_holder, none_held}
+use Rattle.step_laws.proofs.Needs.{keeps_set, push_within, beyond, within_or_beyond, has_within, mapped_at, mapped_length, without_keeps, split_at, no_holder, none_held}
 
 same_volumes : (w u : Up) → u.volumes ≡ w.volumes → KeepsNeeded w u
 same_volumes w u e v i h n = subst (λ vs. has (Rattle.std.specs.Prelude.slice_index_or vs v no_volume).snapshots i ≡ true) (sym e) h
@@ -117,3 +117,10 @@ deeds_keep e d i = go (deed_cases e d i)
 
 pub restarts_keep : (w : Up) (v : ℕ) (i : Ident) → has (volume_at w v).snapshots i ≡ true → has (volume_at (opened w) v).snapshots i ≡ true
 restarts_keep w v i h = subst (λ u. has u.snapshots i ≡ true) (sym (mapped_at reopened w.volumes no_volume v (has_within w v i h))) h
+
+pub restarts_keep_snapshots : (w : Up) (v : ℕ) → (volume_at (opened w) v).snapshots ≡ (volume_at w v).snapshots
+restarts_keep_snapshots w v = go (within_or_beyond v (length w.volumes))
+  where
+    go : (v < length w.volumes) ⊎ (length w.volumes ≤ v) → (volume_at (opened w) v).snapshots ≡ (volume_at w v).snapshots
+    go (inl h) = ap (λ u. u.snapshots) (mapped_at reopened w.volumes no_volume v h)
+    go (inr h) = ap (λ u. u.snapshots) (beyond (map reopened w.volumes) no_volume v (rw (mapped_length reopened w.volumes) h) ∙ sym (beyond w.volumes no_volume v h))

@@ -7,7 +7,7 @@ use Rattle.sm_defs.specs.Words.{Among}
 use Rattle.sm_defs.specs.Image.{Block, Image, tags, stands}
 use Rattle.sm_defs.specs.Volume.{Volume, images_of, tags_of, numbers, free_tags, free, used}
 use Rattle.sm_model.specs.TagsFit.{TagsFitIn}
-use Rattle.sm_model.specs.OfVolumes.{first_of}
+use Rattle.sm_defs.specs.Operations.{first_of}
 use Rattle.transfer_laws.proofs.Lists.{among_stands}
 use Rattle.transfer_laws.proofs.Landed.{free_ascend}
 use Rattle.step_laws.proofs.Tags.{any_left, any_right}

@@ -32,20 +32,20 @@ to_numbers (suc n) t k h l = go (order t k h) (to_numbers n (suc t) k)
     go (inl e) ih = inl e
     go (inr g) ih = inr (ih g (omega arith))
 
-below_numbers : (n t k : ℕ) → Among (numbers t n) k → k < t + n
+pub below_numbers : (n t k : ℕ) → Among (numbers t n) k → k < t + n
 below_numbers zero t k m = absurd m
 below_numbers (suc n) t k (inl e) = omega arith
 below_numbers (suc n) t k (inr m) = let h = below_numbers n (suc t) k m in omega arith
 
 -- ---- the first number that has not landed
 
-record IsPrefix (n k : ℕ) (landed : List ℕ) (p : ℕ) : Type 0 where
-  from : k ≤ p
-  to : p ≤ k + n
-  all : (j : ℕ) → k ≤ j → j < p → stands j landed ≡ true
-  next : p < k + n → stands p landed ≡ false
+pub record IsPrefix (n k : ℕ) (landed : List ℕ) (p : ℕ) : Type 0 where
+  pub from : k ≤ p
+  pub to : p ≤ k + n
+  pub all : (j : ℕ) → k ≤ j → j < p → stands j landed ≡ true
+  pub next : p < k + n → stands p landed ≡ false
 
-prefix_is : (n k : ℕ) (landed : List ℕ) → IsPrefix n k landed (prefix_from n k landed)
+pub prefix_is : (n k : ℕ) (landed : List ℕ) → IsPrefix n k landed (prefix_from n k landed)
 prefix_is zero k landed = record { from = omega arith; to = omega arith; all = λ j h l. absurd (omega arith); next = λ l. absurd (omega arith) }
 prefix_is (suc n) k landed = go (stands k landed) refl (prefix_is n (suc k) landed)
   where
@@ -115,7 +115,7 @@ prefix_below landed p cost h a = let (k, m, f) = all_false (λ k. stands k lande
     go k f l (inr g) = omega arith
 
 -- nothing landed too far past the checkpoint
-prefix_near : (landed : List ℕ) (p far : ℕ) → IsPrefix (length landed) 0 landed p → ((k : ℕ) → Among landed k → k < far) → p ≤ far
+pub prefix_near : (landed : List ℕ) (p far : ℕ) → IsPrefix (length landed) 0 landed p → ((k : ℕ) → Among landed k → k < far) → p ≤ far
 prefix_near landed p far h n = go (within_or_beyond far p)
   where
     go : (far < p) ⊎ (p ≤ far) → p ≤ far

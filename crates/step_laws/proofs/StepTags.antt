@@ -95,7 +95,7 @@ dp_stored v h p b s = go v.snapshots refl
     go [] e = inl (h.blank e p b s)
     go (t ∷ ts) e = in_one (λ z. absurd (cc)) s.0 s.1 s.2
 
-checked : (m p : Bool) (c : ℕ) → (m && not p && (c == 0)) ≡ false → m ≡ true → (p ≡ true) ⊎ (c ≢ 0)
+pub checked : (m p : Bool) (c : ℕ) → (m && not p && (c == 0)) ≡ false → m ≡ true → (p ≡ true) ⊎ (c ≢ 0)
 checked true true c e h = inl refl
 checked true false c e h = inr (eqb-false c 0 e)
 checked false p c e h = absurd (cc)

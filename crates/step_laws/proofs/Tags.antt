@@ -9,7 +9,8 @@ use Rattle.sm_defs.specs.Image.{Block, Image, tags, tag_of, stands, full_block}
 use Rattle.sm_defs.specs.Volume.{Volume, Snapshot, ident_of, image_of, images_of, tags_of, free_tags, numbers}
 use Rattle.sm_model.specs.Standing.{Stored}
 use Rattle.sm_model.specs.TagsFit.{TagsFitIn}
-use Rattle.sm_model.specs.OfVolumes.{first_of, written, at_point, with_snapshot}
+use Rattle.sm_defs.specs.Operations.{first_of, with_snapshot}
+use Rattle.sm_model.specs.OfVolumes.{written, at_point}
 use Rattle.sm_model.specs.Opened.{reopened}
 use Rattle.transfer_laws.proofs.Lists.{among_append, from_map, among_map}
 use Rattle.sm_defs.specs.Thinned.{Thinned}

@@ -14,7 +14,8 @@ use Rattle.sm_model.specs.Answers.{Told}
 use Rattle.sm_model.specs.TagsFit.{TagsFit, TagsFitIn}
 use Rattle.sm_model.specs.Sound.{SoundUp}
 use Rattle.sm_model.specs.Standing.{Stored}
-use Rattle.sm_model.specs.OfVolumes.{with_snapshot, client_snapshot, snapped}
+use Rattle.sm_defs.specs.Operations.{with_snapshot}
+use Rattle.sm_model.specs.OfVolumes.{client_snapshot, snapped}
 use Rattle.sm_model.specs.Opened.{opened, reopened}
 use Rattle.sm_model.specs.Running.{Running, IsRunning}
 use Rattle.sm_model.specs.Steps.{Effect, prepared_snapshot}

@@ -23,6 +23,7 @@ use Rattle.sm_model.specs.World.{Deed}
 use Rattle.sm_model.specs.Answers.{Reached, Target, goes_to}
 use Rattle.sm_model.specs.Answer.{answer}
 use Rattle.sm_model.specs.OfVolumes as volumes
+use Rattle.sm_defs.specs.Operations as operations
 use Rattle.sm_model.specs.OfRelations as relations
 use Rattle.sm_model.specs.OfRelations.{has_a_half}
 use Rattle.sm_model.specs.OfTransfers as transfers
@@ -40,7 +41,7 @@ use Rattle.transfer_laws.proofs.Asc.{among_each}
 use Rattle.transfer_laws.proofs.Kept.{common_newest}
 use Rattle.transfer_laws.proofs.Lists.{among_append, among_filter, among_right, filter_among, from_map, copy_from_has, has_from_copy, same_is, is_same}
 use Rattle.step_laws.proofs.Walk.{OfOk, past, with_found, with_ok, with_held, with_target, whether_so, now, going}
-use Rattle.step_laws.proofs.Members.{among_set, among_get_or}
+use Rattle.step_laws.proofs.Members.{among_set, among_get_or, set_at}
 use Rattle.step_laws.proofs.Needs.{set_cases, push_within, mapped_at, split_at}
 use Rattle.step_laws.proofs.Thinned.{filter_thins, thinned_among}
 use Rattle.step_laws.proofs.Changes.{RelationAt}
@@ -69,6 +70,7 @@ lacks_fewer ss ts i h e = false_from_ne_true (has ts i) (λ k. let (t, m, q) = c
 stands_fewer : (v u : Volume) (r : Relationship) (t : Transfer) → (u.kind ≡ Rw → v.kind ≡ Rw) → ((s : Snapshot) → Among u.snapshots s → Among v.snapshots s) → TransferStands v r t → TransferStands u r t
 stands_fewer v u r t k h ts = record {
   writable = λ e. let (a, b, c, d) = ts.writable (k e) in (a, b, c, λ i m. lacks_fewer v.snapshots u.snapshots i h (d i m));
+  unpruned = λ e. ts.unpruned (k e);
   resync = ts.resync;
   ahead = λ i m. lacks_fewer v.snapshots u.snapshots i h (ts.ahead i m);
   ends = ts.ends;
@@ -92,6 +94,7 @@ stands_more : (v u : Volume) (f : Snapshot) (r : Relationship) (t : Transfer) �
 stands_more v u f r t k e n ts =
     let (a, b, c, d) = ts.writable k in record {
       writable = λ _. (a, b, c, λ i m. subst (λ ss. has ss i ≡ false) (sym e) (lacks_more v.snapshots f i (n i m) (d i m)));
+      unpruned = λ _. ts.unpruned k;
       resync = ts.resync;
       ahead = λ i m. subst (λ ss. has ss i ≡ false) (sym e) (lacks_more v.snapshots f i (n i (later_among t.legs i m)) (ts.ahead i m));
       ends = ts.ends;
@@ -99,9 +102,10 @@ stands_more v u f r t k e n ts =
     }
 
 -- the transfer goes on with the same legs, and has landed nothing where it had not
-stands_on : (v : Volume) (r q : Relationship) (t u : Transfer) → u.kind ≡ t.kind → q.base ≡ r.base → u.legs ≡ t.legs → (t.checkpoint ≡ 0 → t.landed ≡ [] → (u.checkpoint ≡ 0) × (u.landed ≡ [])) → TransferStands v r t → TransferStands v q u
-stands_on v r q t u k b l h ts = record {
+stands_on : (v : Volume) (r q : Relationship) (t u : Transfer) → u.kind ≡ t.kind → q.base ≡ r.base → u.legs ≡ t.legs → (t.checkpoint ≡ 0 → t.landed ≡ [] → (u.checkpoint ≡ 0) × (u.landed ≡ [])) → (v.kind ≡ Rw → u.pruned ≡ false) → TransferStands v r t → TransferStands v q u
+stands_on v r q t u k b l h p ts = record {
   writable = λ e. let (a, c, d, f) = ts.writable e in let (x, y) = h c d in (k ∙ a, x, y, λ i m. f i (subst (λ is. Among is i) l m));
+  unpruned = p;
   resync = λ e f. ts.resync (sym k ∙ e) (sym b ∙ f);
   ahead = λ i m. ts.ahead i (subst (λ is. Among (later is) i) l m);
   ends = λ e f. ts.ends (sym b ∙ e) (sym l ∙ f);
@@ -109,9 +113,10 @@ stands_on v r q t u k b l h ts = record {
 }
 
 -- with its first leg settled
-stands_settled : (v : Volume) (r : Relationship) (t u : Transfer) (q : Relationship) (i : Ident) (is : List Ident) → t.legs ≡ i ∷ is → u.kind ≡ t.kind → u.legs ≡ is → u.checkpoint ≡ 0 → u.landed ≡ [] → q.base ≡ Some i → TransferStands v r t → TransferStands v q u
-stands_settled v r t u q i is l k m c d b ts = record {
+stands_settled : (v : Volume) (r : Relationship) (t u : Transfer) (q : Relationship) (i : Ident) (is : List Ident) → t.legs ≡ i ∷ is → u.kind ≡ t.kind → u.legs ≡ is → u.checkpoint ≡ 0 → u.landed ≡ [] → q.base ≡ Some i → (v.kind ≡ Rw → u.pruned ≡ false) → TransferStands v r t → TransferStands v q u
+stands_settled v r t u q i is l k m c d b p ts = record {
   writable = λ e. let (a, x, y, f) = ts.writable e in (k ∙ a, c, d, λ j n. f j (subst (λ ks. Among ks j) (sym l) (inr (subst (λ ks. Among ks j) m n))));
+  unpruned = p;
   resync = λ e f. absurd (let g : None ≡ Some i = sym f ∙ b in cc);
   ahead = λ j n. ts.ahead j (subst (λ ks. Among (later ks) j) (sym l) (later_among is j (subst (λ ks. Among (later ks) j) m n)));
   ends = λ f. absurd (let g : None ≡ Some i = sym f ∙ b in cc);
@@ -148,7 +153,7 @@ only v q u e ts t f = subst (TransferStands v q) (same_Some u t (sym e ∙ f)) t
 
 -- the same transfer, base and destination
 transfers_same : (w : Up) (r q : Relationship) → SoundUp w → Among w.relations r → q.destination ≡ r.destination → q.base ≡ r.base → q.transfer ≡ r.transfer → (t : Transfer) → q.transfer ≡ Some t → TransferStands (volume_at w q.destination) q t
-transfers_same w r q s m d b f t e = subst (λ i. TransferStands (volume_at w i) q t) (sym d) (stands_on (volume_at w r.destination) r q t t refl b refl (λ x y. (x, y)) (s.transfers_stand r t m (sym f ∙ e)))
+transfers_same w r q s m d b f t e = subst (λ i. TransferStands (volume_at w i) q t) (sym d) (stands_on (volume_at w r.destination) r q t t refl b refl (λ x y. (x, y)) (s.transfers_stand r t m (sym f ∙ e)).unpruned (s.transfers_stand r t m (sym f ∙ e)))
 
 -- no two relationships with destination halves end at one volume
 pub one_destination : (w : Up) (r q : Relationship) → SoundUp w → Among w.relations r → Among w.relations q → r.destination_half ≡ true → q.destination_half ≡ true → r.destination ≡ q.destination → r ≡ q
@@ -168,7 +173,7 @@ write w path block fill s = with_found _ _ _ _ (λ v is. past _ _ _ _ (λ _. pas
     (transfers_fewer w v.at v.item _ (volume_at_place w _ v is).at s.transfers_stand (λ e. e) (λ t m. m))))))
 
 -- no leg is the next snapshot of a client
-leg_not_clients : (w : Up) (p : Volume → Bool) (v : Found Volume) → SoundUp w → found p w.volumes ≡ Some v → (r : Relationship) (t : Transfer) → Among w.relations r → r.transfer ≡ Some t → (i : Ident) → Among t.legs i → ¬ (i ≡ volumes.client_ident v.at v.item)
+pub leg_not_clients : (w : Up) (p : Volume → Bool) (v : Found Volume) → SoundUp w → found p w.volumes ≡ Some v → (r : Relationship) (t : Transfer) → Among w.relations r → r.transfer ≡ Some t → (i : Ident) → Among t.legs i → ¬ (i ≡ volumes.client_ident v.at v.item)
 leg_not_clients w p v s is r t m e i n f = go ((s.crossed.transfers r t m e).legs_at_source i n)
   where
     go : (has (volume_at w r.source).snapshots i ≡ true) ⊎ IsReservedLeg r t i → ⊥
@@ -231,6 +236,7 @@ started_stands : (w : Up) (r : Relationship) (kind : TransferKind) → SoundUp w
     (transfers.new_transfer w.next_transfer kind (transfers.next_legs w r r.base (volume_at w r.destination).snapshots))
 started_stands w r kind s m k dp none some = record {
   writable = λ e. absurd (not_both (volume_at w r.destination).kind e dp);
+  unpruned = λ e. refl;
   resync = λ e. absurd (k e);
   ahead = λ i n. new_lacked w r r.base (volume_at w r.destination) s (among_get_or w.volumes r.destination no_volume (s.crossed.relations r m).destination) i
       (later_among (transfers.next_legs w r r.base (volume_at w r.destination).snapshots).idents i n);
@@ -251,17 +257,17 @@ resume_or_start : (w : Up) (r : Found Relationship) (kind : TransferKind) (t : O
     (r.item.transfer ≡ None → r.item.base ≡ None → (t : Snapshot) → ¬ (Among (volume_at w r.item.destination).snapshots t)) → OfOk Stand (transfers.resume_or_start w r.at r.item kind t)
 unfolding transfers.resume_or_start
 resume_or_start w r kind (Some t) s a e k dp none = now Stand _ (transfers_relation w r.at (transfers.with_transfer r.item (transfers.resumed t)) s.transfers_stand
-    (only (volume_at w r.item.destination) _ (transfers.resumed t) refl (stands_on (volume_at w r.item.destination) r.item _ t (transfers.resumed t) refl refl refl (λ x y. (x, no_landing t.checkpoint x)) (s.transfers_stand r.item t a.among e))))
+    (only (volume_at w r.item.destination) _ (transfers.resumed t) refl (stands_on (volume_at w r.item.destination) r.item _ t (transfers.resumed t) refl refl refl (λ x y. (x, no_landing t.checkpoint x)) (λ _. refl) (s.transfers_stand r.item t a.among e))))
 resume_or_start w r kind None s a e k dp none = start_it w r kind s a k dp (none e)
 
-dp_from : (k : Kind) → is_rw k ≡ false → k ≡ Dp
+pub dp_from : (k : Kind) → is_rw k ≡ false → k ≡ Dp
 dp_from Rw e = absurd (cc)
 dp_from Dp e = refl
 
-at_target : (w : Up) (t : Target) (p : Volume → Bool) → found p w.volumes ≡ Some t.destination → found (goes_to t.destination.at) w.relations ≡ Some t.relation → volume_at w t.relation.item.destination ≡ t.destination.item
+pub at_target : (w : Up) (t : Target) (p : Volume → Bool) → found p w.volumes ≡ Some t.destination → found (goes_to t.destination.at) w.relations ≡ Some t.relation → volume_at w t.relation.item.destination ≡ t.destination.item
 at_target w t p at is = ap (volume_at w) (goes_there w t.destination.at t.relation is) ∙ (volume_at_place w p t.destination at).at
 
-none_empty : (ss : List Snapshot) → is_empty ss ≡ true → (t : Snapshot) → ¬ (Among ss t)
+pub none_empty : (ss : List Snapshot) → is_empty ss ≡ true → (t : Snapshot) → ¬ (Among ss t)
 none_empty [] e t m = m
 none_empty (s ∷ ss) e t m = absurd (cc)
 
@@ -270,7 +276,7 @@ initialize w d s = with_target _ _ _ _ (λ t at is. past _ _ _ _ (λ a. past _ _
     resume_or_start w t.relation Initialize _ s (relation_at_place w _ t.relation is) refl (λ e. cc) (ap (λ y. y.kind) v ∙ dp_from t.destination.item.kind a)
     (λ _ _ u m. none_empty t.destination.item.snapshots (not-false (is_empty t.destination.item.snapshots) b) u (subst (λ y. Among y.snapshots u) v m)))))))
 
-some_base : (e : Bool) (b : Option Ident) (o : Option Transfer) → (e || (is_none b && is_none o)) ≡ false → o ≡ None → b ≡ None → ⊥
+pub some_base : (e : Bool) (b : Option Ident) (o : Option Transfer) → (e || (is_none b && is_none o)) ≡ false → o ≡ None → b ≡ None → ⊥
 some_base true b o f g h = cc
 some_base false (Some i) o f g h = cc
 some_base false None (Some t) f g h = cc
@@ -290,7 +296,7 @@ aborted v r t is ss e l ts = go is l
   where
     same : TransferStands v (transfers.with_transfer r (transfers.halted (transfers.transfer_or t r.transfer))) (transfers.halted (transfers.transfer_or t r.transfer))
     same = subst (λ o. TransferStands v (transfers.with_transfer r (transfers.halted (transfers.transfer_or t o))) (transfers.halted (transfers.transfer_or t o))) (sym e)
-        (stands_on v r (transfers.with_transfer r (transfers.halted t)) t (transfers.halted t) refl refl refl (λ x y. (ap transfers.landed_prefix y, ap (λ ks. numbers 0 (transfers.landed_prefix ks)) y)) ts)
+        (stands_on v r (transfers.with_transfer r (transfers.halted t)) t (transfers.halted t) refl refl refl (λ x y. (ap transfers.landed_prefix y, ap (λ ks. numbers 0 (transfers.landed_prefix ks)) y)) (λ _. refl) ts)
 
     go : (is : List Ident) → t.legs ≡ is → TransferStands v (transfers.with_transfer (transfers.settled_if_there ss r t is) (transfers.halted (transfers.transfer_or t (transfers.settled_if_there ss r t is).transfer)))
         (transfers.halted (transfers.transfer_or t (transfers.settled_if_there ss r t is).transfer))
@@ -299,7 +305,7 @@ aborted v r t is ss e l ts = go is l
       where
         by : (b : Bool) → TransferStands v (transfers.with_transfer (cond b (transfers.settled r t i is) r) (transfers.halted (transfers.transfer_or t (cond b (transfers.settled r t i is) r).transfer)))
             (transfers.halted (transfers.transfer_or t (cond b (transfers.settled r t i is) r).transfer))
-        by true = stands_settled v r t _ _ i is l refl refl refl refl refl ts
+        by true = stands_settled v r t _ _ i is l refl refl refl refl refl (λ _. refl) ts
         by false = same
 
 same_destination : (ss : List Snapshot) (r : Relationship) (t : Transfer) (is : List Ident) → (transfers.settled_if_there ss r t is).destination ≡ r.destination
@@ -370,6 +376,7 @@ resynced_stands : (w : Up) (r : Relationship) (c : Snapshot) → SoundUp w → A
     TransferStands (volume_at w r.destination) (transfers.resynced r c.ident t) t
 resynced_stands w r c s m e = record {
   writable = λ _. (refl, refl, refl, resync_lacks w r c s m e);
+  unpruned = λ _. refl;
   resync = λ _ f. cc;
   ahead = λ i n. resync_lacks w r c s m e i
       (later_among (transfers.next_legs w r (Some c.ident) (transfers.as_reverted (policy_at w r.policy) c.ident (volume_at w r.destination).snapshots)).idents i n);
@@ -439,15 +446,15 @@ module _ (w : Up) (k : ℕ) (x : Running) (s : SoundUp w) (r : IsRunning w k x) 
   at_relation : (q : Relationship) (u : Transfer) → q.transfer ≡ Some u → q.destination ≡ x.relation.destination → TransferStands x.destination q u → TransfersStand (with_relation w k q)
   at_relation q u e d ts = transfers_relation w k q s.transfers_stand (only (volume_at w q.destination) q u e (subst (λ v. TransferStands v q u) (sym (ap (volume_at w) d ∙ at_x)) ts))
 
-  goes_on : (u : Transfer) → u.kind ≡ x.transfer.kind → u.legs ≡ x.transfer.legs → (x.transfer.checkpoint ≡ 0 → x.transfer.landed ≡ [] → (u.checkpoint ≡ 0) × (u.landed ≡ [])) → TransfersStand (with_relation w k (transfers.with_transfer x.relation u))
-  goes_on u e l h = at_relation (transfers.with_transfer x.relation u) u refl refl (stands_on x.destination x.relation (transfers.with_transfer x.relation u) x.transfer u e refl l h begins)
+  goes_on : (u : Transfer) → u.kind ≡ x.transfer.kind → u.legs ≡ x.transfer.legs → (x.transfer.checkpoint ≡ 0 → x.transfer.landed ≡ [] → (u.checkpoint ≡ 0) × (u.landed ≡ [])) → u.pruned ≡ false → TransfersStand (with_relation w k (transfers.with_transfer x.relation u))
+  goes_on u e l h p = at_relation (transfers.with_transfer x.relation u) u refl refl (stands_on x.destination x.relation (transfers.with_transfer x.relation u) x.transfer u e refl l h (λ _. p) begins)
 
   stops : (reason : Reason) → TransfersStand (with_relation w k (transfers.with_transfer x.relation (interrupted reason x.transfer)))
-  stops reason = goes_on (interrupted reason x.transfer) refl refl (λ a b. (a, no_landing x.transfer.checkpoint a))
+  stops reason = goes_on (interrupted reason x.transfer) refl refl (λ a b. (a, no_landing x.transfer.checkpoint a)) refl
 
   settles : (i : Ident) (is : List Ident) → x.transfer.legs ≡ i ∷ is → TransfersStand (with_relation w k (settled_relation x i is))
   settles i [] e = transfers_relation w k (settled_relation x i []) s.transfers_stand (λ u f. absurd (cc))
-  settles i (j ∷ is) e = at_relation (settled_relation x i (j ∷ is)) _ refl refl (stands_settled x.destination x.relation x.transfer _ (settled_relation x i (j ∷ is)) i (j ∷ is) e refl refl refl refl refl begins)
+  settles i (j ∷ is) e = at_relation (settled_relation x i (j ∷ is)) _ refl refl (stands_settled x.destination x.relation x.transfer _ (settled_relation x i (j ∷ is)) i (j ∷ is) e refl refl refl refl refl begins.unpruned begins)
 
   fewer : (u : Volume) → (u.kind ≡ Rw → x.destination.kind ≡ Rw) → ((t : Snapshot) → Among u.snapshots t → Among x.destination.snapshots t) → TransfersStand (with_destination w x u)
   fewer u e h = transfers_fewer w x.relation.destination x.destination u at_x s.transfers_stand e h
@@ -464,8 +471,8 @@ module _ (w : Up) (k : ℕ) (x : Running) (s : SoundUp w) (r : IsRunning w k x) 
           let one = same_relation w.relations q x.relation t x.transfer s.crossed.transfers_differ m here e r.transfer (omega (arith, same)) in
           (s.crossed.relations x.relation here).apart (sym (ap (λ y. y.destination) (sym one) ∙ d))
 
-  prepares : x.transfer.reserved ≡ true → has x.source.snapshots (reserved_leg x) ≡ false → x.source.kind ≡ Rw → TransfersStand (with_volume w x.relation.source (volumes.with_snapshot x.source (prepared_snapshot w x (reserved_leg x))))
-  prepares a f e = transfers_more w x.relation.source x.source (volumes.with_snapshot x.source (prepared_snapshot w x (reserved_leg x))) (prepared_snapshot w x (reserved_leg x)) (sym (ap (λ y. y.source) r.is)) s.transfers_stand e refl (leg_not_made a f)
+  prepares : x.transfer.reserved ≡ true → has x.source.snapshots (reserved_leg x) ≡ false → x.source.kind ≡ Rw → TransfersStand (with_volume w x.relation.source (operations.with_snapshot x.source (prepared_snapshot w x (reserved_leg x))))
+  prepares a f e = transfers_more w x.relation.source x.source (operations.with_snapshot x.source (prepared_snapshot w x (reserved_leg x))) (prepared_snapshot w x (reserved_leg x)) (sym (ap (λ y. y.source) r.is)) s.transfers_stand e refl (leg_not_made a f)
 
   -- only its own transfer goes to the destination
   only_here : (q : Relationship) (t : Transfer) → Among w.relations q → q.transfer ≡ Some t → q.destination ≡ x.relation.destination → q ≡ x.relation
@@ -474,6 +481,7 @@ module _ (w : Up) (k : ℕ) (x : Running) (s : SoundUp w) (r : IsRunning w k x) 
   published_begins : (leg : Snapshot) → Ahead x leg → TransferStands (published w x leg) x.relation x.transfer
   published_begins leg a = record {
     writable = λ e. absurd (not_both x.destination.kind e (dp_there w k x s r a.stays x.destination.kind refl));
+    unpruned = begins.unpruned;
     resync = begins.resync;
     ahead = λ i m. false_from_ne_true _ (λ h. let (t, n, q) = copy_from_has (list_published w x (arrived x leg)) i h in ahead i m t q (published_among w x leg t n));
     ends = begins.ends;
@@ -502,20 +510,24 @@ module _ (w : Up) (k : ℕ) (x : Running) (s : SoundUp w) (r : IsRunning w k x) 
   ships : (leg : Snapshot) → Ahead x leg → (u : Transfer) → u.kind ≡ x.transfer.kind → u.legs ≡ x.transfer.legs → TransfersStand (with_relation w k (transfers.with_transfer x.relation u))
   ships leg a u e l = at_relation (transfers.with_transfer x.relation u) u refl refl (record {
     writable = λ z. absurd (not_both x.destination.kind z (dp_there w k x s r a.stays x.destination.kind refl));
+    unpruned = λ z. absurd (not_both x.destination.kind z (dp_there w k x s r a.stays x.destination.kind refl));
     resync = λ z. begins.resync (sym e ∙ z);
     ahead = λ i m. begins.ahead i (subst (λ is. Among (later is) i) l m);
     ends = λ z f. begins.ends z (sym l ∙ f);
     first_time = λ z t m. subst (λ is. IsFirst is t.ident) (sym l) (begins.first_time z t m);
   })
 
-  -- the pruned mark is nothing that a transfer stands by
-  prunes : TransfersStand (with_relation (with_destination w x (without (goes w x) x.destination)) k (transfers.with_transfer x.relation (record x.transfer { pruned = true })))
-  prunes =
+  -- the destination is read-only, so that the mark may be set
+  prunes : (leg : Snapshot) → Ahead x leg → TransfersStand (with_relation (with_destination w x (without (goes w x) x.destination)) k (transfers.with_transfer x.relation (record x.transfer { pruned = true })))
+  prunes leg a =
       let h = fewer (without (goes w x) x.destination) (λ e. e) (thinned_among (filter_thins (λ u. not (goes w x u)) x.destination.snapshots)) in
       transfers_relation (with_destination w x (without (goes w x) x.destination)) k (transfers.with_transfer x.relation (record x.transfer { pruned = true })) h
-      (only _ _ (record x.transfer { pruned = true }) refl (stands_on _ x.relation _ x.transfer (record x.transfer { pruned = true }) refl refl refl (λ a b. (a, b)) (h x.relation x.transfer here r.transfer)))
+      (only _ _ (record x.transfer { pruned = true }) refl (stands_on _ x.relation _ x.transfer (record x.transfer { pruned = true }) refl refl refl (λ a b. (a, b)) (λ z. absurd (not_both x.destination.kind (sym (ap (λ v. v.kind) now_there) ∙ z) (dp_there w k x s r a.stays x.destination.kind refl))) (h x.relation x.transfer here r.transfer)))
+    where
+      now_there : volume_at (with_destination w x (without (goes w x) x.destination)) x.relation.destination ≡ without (goes w x) x.destination
+      now_there = set_at w.volumes x.relation.destination (without (goes w x) x.destination) no_volume (s.crossed.relations x.relation here).destination
 
-rw_if : (k : Kind) → not (is_rw k) ≡ false → k ≡ Rw
+pub rw_if : (k : Kind) → not (is_rw k) ≡ false → k ≡ Rw
 rw_if k e = rw_from k (not-false (is_rw k) e)
 
 of_effect : (w : Up) (k : ℕ) (x : Running) (kind : StepKind) (e : Effect) → SoundUp w → IsRunning w k x → IsDue x kind → IsEffect w k x kind e → By e
@@ -524,7 +536,7 @@ of_effect w k x kind e s r (due_revert base a f) i = subst By (sym i) (going By 
 of_effect w k x kind e s r (due_finish base a f) i = subst By (sym i) (transfers_relation w k (transfers.without_transfer x.relation) s.transfers_stand (λ u g. absurd (cc)))
 of_effect w k x kind e s r (due_settle j is a f) i = subst By (sym i) (settles w k x s r j is a)
 of_effect w k x kind e s r (due_prepare a f) i = subst By (sym i) (going By w k x _ _ (stops w k x s r) (λ o. prepares w k x s r a f (rw_if x.source.kind (no_reason _ _ _ o).0)))
-of_effect w k x kind e s r (due_prune leg a b) i = subst By (sym i) (going By w k x _ _ (stops w k x s r) (λ _. prunes w k x s r))
+of_effect w k x kind e s r (due_prune leg a b) i = subst By (sym i) (going By w k x _ _ (stops w k x s r) (λ _. prunes w k x s r leg a))
 of_effect w k x kind e s r (due_publish leg a b c) i = subst By (sym i) (going By w k x _ _ (stops w k x s r) (λ _. publishes w k x s r leg a))
 of_effect w k x kind e s r (due_checkpoint leg a b c d) i = subst By (sym i) (ships w k x s r leg a (record x.transfer { checkpoint = transfers.landed_prefix x.transfer.landed }) refl refl)
 of_effect w k x kind e s r (due_ship leg a b c d) (n, m, i) = subst By (sym i) (going By w k x _ _ (stops w k x s r) (λ _. ships w k x s r leg a (record x.transfer { landed = insert_landed n x.transfer.landed }) refl refl))
@@ -543,7 +555,7 @@ deeds_keep_transfers e d s i = done_gives TransfersStand (answer d.old e) d (of_
 reopened_begins : (v : Volume) (q : Relationship) (o : Option Transfer) → ((t : Transfer) → o ≡ Some t → TransferStands v q t) → (t : Transfer) → restarted o ≡ Some t → TransferStands (reopened v) (rejoined q) t
 reopened_begins v q None h t e = absurd (cc)
 reopened_begins v q (Some u) h t e = subst (TransferStands (reopened v) (rejoined q)) (same_Some _ t e)
-    (stands_fewer v (reopened v) (rejoined q) _ (λ z. z) (λ s m. m) (stands_on v q (rejoined q) u _ refl refl refl (λ a b. (a, no_landing u.checkpoint a)) (h u refl)))
+    (stands_fewer v (reopened v) (rejoined q) _ (λ z. z) (λ s m. m) (stands_on v q (rejoined q) u _ refl refl refl (λ a b. (a, no_landing u.checkpoint a)) (λ _. refl) (h u refl)))
 
 pub restarts_keep_transfers : (w : Up) → SoundUp w → TransfersStand (opened w)
 restarts_keep_transfers w s r t m e = let (q, n, f) = from_map rejoined w.relations r m in

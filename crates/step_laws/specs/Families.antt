@@ -9,7 +9,7 @@ use Rattle.sm_model.specs.LegalRun.{IsDeed}
 use Rattle.sm_model.specs.Opened.{opened}
 use Rattle.sm_model.specs.Standing.{EachVolume}
 use Rattle.sm_model.specs.FamiliesAgree.{FamiliesAgree}
-use Rattle.sm_model.specs.FamiliesStand.{IsFamily}
+use Rattle.sm_model.specs.FamiliesStand.{IsFamily, FamiliesStand}
 use Rattle.sm_model.specs.Sound.{SoundUp}
 
 abbrev pub AnswersKeepFamilies : Type 0
@@ -30,3 +30,9 @@ DeedsKeepFamilyNumbers = (e : Event) (d : Deed) → SoundUp d.old → IsDeed e d
 
 abbrev pub RestartsKeepFamilyNumbers : Type 0
 RestartsKeepFamilyNumbers = (w : Up) → FamiliesGiven w → FamiliesGiven (opened w)
+
+abbrev pub DeedsKeepAllFamilies : Type 0
+DeedsKeepAllFamilies = (e : Event) (d : Deed) → SoundUp d.old → IsDeed e d → FamiliesStand d.new
+
+abbrev pub RestartsKeepAllFamilies : Type 0
+RestartsKeepAllFamilies = (w : Up) → SoundUp w → FamiliesStand (opened w)

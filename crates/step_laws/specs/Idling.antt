@@ -5,7 +5,8 @@ use Rattle.sm_model.specs.declared.event.Event.{Event}
 use Rattle.sm_model.specs.World.{Deed}
 use Rattle.sm_model.specs.Standing.{EachTransfer}
 use Rattle.sm_model.specs.Running.{Running, IsRunning}
-use Rattle.sm_model.specs.Due.{StepKind, kind_due, IsIdle}
+use Rattle.sm_model.specs.Steps.{Effect}
+use Rattle.sm_model.specs.Due.{StepKind, kind_due, IsEffect, IsIdle}
 use Rattle.sm_model.specs.Choice.{chosen}
 use Rattle.sm_model.specs.LegalRun.{IsDeed}
 use Rattle.sm_model.specs.Opened.{opened}
@@ -22,8 +23,9 @@ DeedsKeepEnds = (e : Event) (d : Deed) → EndsAtBase d.old → IsDeed e d → E
 abbrev pub RestartsKeepEnds : Type 0
 RestartsKeepEnds = (w : Up) → EndsAtBase w → EndsAtBase (opened w)
 
+-- a kind, and an effect of it: some leg's block may be shipped where the kind is to ship
 abbrev pub RunningTransfersHaveSteps : Type 0
-RunningTransfersHaveSteps = (w : Up) (k : ℕ) (x : Running) → SoundUp w → IsRunning w k x → (kind : StepKind) × (kind_due x ≡ Some kind)
+RunningTransfersHaveSteps = (w : Up) (k : ℕ) (x : Running) → SoundUp w → IsRunning w k x → (kind : StepKind) × (kind_due x ≡ Some kind) × (e : Effect) × IsEffect w k x kind e
 
 -- the program finds no step for an actor exactly where there is none for anybody
 abbrev pub IdleIsExact : Type 0

@@ -11,3 +11,6 @@ pub mod Transfers
 pub mod Crossing
 pub mod Dropping
 pub mod Runs
+pub mod Keeping
+pub mod Fitting
+pub mod Soundness

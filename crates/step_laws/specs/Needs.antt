@@ -27,6 +27,6 @@ StepsKeepTheNeeded = (w : Up) (e : Effect) → IsStep w e → KeepsNeeded w e.wo
 abbrev pub DeedsKeepTheNeeded : Type 0
 DeedsKeepTheNeeded = (e : Event) (d : Deed) → IsDeed e d → KeepsNeeded d.old d.new
 
--- a restart drops no snapshot at all
+-- a restart leaves each volume's snapshots as they are: it drops none, and brings none
 abbrev pub RestartsKeepSnapshots : Type 0
-RestartsKeepSnapshots = (w : Up) (v : ℕ) (i : Ident) → has (volume_at w v).snapshots i ≡ true → has (volume_at (opened w) v).snapshots i ≡ true
+RestartsKeepSnapshots = (w : Up) (v : ℕ) → (volume_at (opened w) v).snapshots ≡ (volume_at w v).snapshots

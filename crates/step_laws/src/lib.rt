@@ -11,12 +11,15 @@ ghost use Rattle.step_laws.specs.Contents.{DeedsAreTraced, ContentsAreTheOrigins
 ghost use Rattle.step_laws.specs.Idling.{DeedsKeepEnds, RestartsKeepEnds, RunningTransfersHaveSteps, IdleIsExact};
 ghost use Rattle.step_laws.specs.Numbers.{DeedsKeepNumbers, RestartsKeepNumbers};
 ghost use Rattle.step_laws.specs.Forming.{AnswersKeepForm, DeedsKeepForm, RestartsKeepForm};
-ghost use Rattle.step_laws.specs.Families.{AnswersKeepFamilies, DeedsKeepFamilies, RestartsKeepFamilies, DeedsKeepFamilyNumbers, RestartsKeepFamilyNumbers};
+ghost use Rattle.step_laws.specs.Families.{AnswersKeepFamilies, DeedsKeepFamilies, RestartsKeepFamilies, DeedsKeepFamilyNumbers, RestartsKeepFamilyNumbers, DeedsKeepAllFamilies, RestartsKeepAllFamilies};
 ghost use Rattle.step_laws.specs.Destinations.{AnswersKeepDestinations, DeedsKeepDestinations, RestartsKeepDestinations};
 ghost use Rattle.step_laws.specs.Transfers.{DeedsKeepTransfers, RestartsKeepTransfers};
-ghost use Rattle.step_laws.specs.Crossing.{StepsKeepCrossed};
+ghost use Rattle.step_laws.specs.Crossing.{StepsKeepCrossed, DeedsKeepCrossed, RestartsKeepCrossed};
+ghost use Rattle.step_laws.specs.Fitting.{AnswersKeepFit, DeedsKeepFit, RestartsKeepFit};
+ghost use Rattle.step_laws.specs.Soundness.{DeedsKeepSound, RestartsKeepSound, EntriesKeepSound};
+ghost use Rattle.step_laws.specs.Keeping.{DeedsKeepLegs, RestartsKeepLegs};
 ghost use Rattle.step_laws.specs.Dropping.{DropsAreNamed, AnswersDropWhatIsNamed};
-ghost use Rattle.step_laws.specs.Runs.{RunsDoDeeds, RunsKeepTheNeeded, RunsDropWhatIsNamed};
+ghost use Rattle.step_laws.specs.Runs.{RunsDoDeeds, RunsKeepTheNeeded, RunsDropWhatIsNamed, EntriesGoOn, EntriesDropWhatIsNamed, NoDeedKeepsSnapshots, EntriesKeepTheNeeded};
 
 /// Opening a world that was just opened changes nothing.
 pub fn opening_again_changes_nothing()
@@ -68,7 +71,7 @@ pub fn deeds_keep_the_needed()
     ensures { DeedsKeepTheNeeded }
 {}
 
-/// A restart drops no snapshot.
+/// A restart leaves each volume's snapshots as they are.
 pub fn restarts_keep_snapshots()
     ensures { RestartsKeepSnapshots }
 {}
@@ -143,7 +146,7 @@ pub fn restarts_keep_ends()
     ensures { RestartsKeepEnds }
 {}
 
-/// In a sound world each running transfer has a step due.
+/// In a sound world each running transfer has a step due, with an effect of it.
 pub fn running_transfers_have_steps()
     ensures { RunningTransfersHaveSteps }
 {}
@@ -235,6 +238,67 @@ pub fn steps_keep_crossed()
     ensures { StepsKeepCrossed }
 {}
 
+/// So they do after each deed.
+pub fn deeds_keep_crossed()
+    ensures { DeedsKeepCrossed }
+{}
+
+/// So they do after a restart of a sound world.
+pub fn restarts_keep_crossed()
+    ensures { RestartsKeepCrossed }
+{}
+
+/// After each deed that begins in a sound world each vault's transfer makes no leg, and its legs have rules.
+pub fn deeds_keep_legs()
+    ensures { DeedsKeepLegs }
+{}
+
+/// So it is after a restart of a sound world.
+pub fn restarts_keep_legs()
+    ensures { RestartsKeepLegs }
+{}
+
+/// After each deed that begins in a sound world families are of numbers that were given, and a vault's own
+/// family stands apart.
+pub fn deeds_keep_all_families()
+    ensures { DeedsKeepAllFamilies }
+{}
+
+/// So it is after a restart of a sound world.
+pub fn restarts_keep_all_families()
+    ensures { RestartsKeepAllFamilies }
+{}
+
+/// After each answer of a sound world what was shipped of a transfer's legs fits.
+pub fn answers_keep_fit()
+    ensures { AnswersKeepFit }
+{}
+
+/// So it does after a restart of a sound world.
+pub fn restarts_keep_fit()
+    ensures { RestartsKeepFit }
+{}
+
+/// After each deed too.
+pub fn deeds_keep_fit()
+    ensures { DeedsKeepFit }
+{}
+
+/// Each deed of a sound world, of an event that a script or a report can give, leaves a sound world.
+pub fn deeds_keep_sound()
+    ensures { DeedsKeepSound }
+{}
+
+/// So does each restart.
+pub fn restarts_keep_sound()
+    ensures { RestartsKeepSound }
+{}
+
+/// Each entry that fits leads from a sound world to a sound one, with the node up or down.
+pub fn entries_keep_sound()
+    ensures { EntriesKeepSound }
+{}
+
 /// A deed that begins in a sound world drops exactly the snapshots that the rules name for it.
 pub fn drops_are_named()
     ensures { DropsAreNamed }
@@ -258,4 +322,25 @@ pub fn runs_keep_the_needed()
 /// Each deed of a run that begins in a sound world drops exactly the snapshots that the rules name for it.
 pub fn runs_drop_what_is_named()
     ensures { RunsDropWhatIsNamed }
+{}
+
+/// What is done in a world that is down after an entry could be done, if it was so before.
+pub fn entries_go_on()
+    ensures { EntriesGoOn }
+{}
+
+/// Each entry from a sound world drops exactly what the rules name for its deed: a restart that finds a deed
+/// done too, and an entry without a deed nothing.
+pub fn entries_drop_what_is_named()
+    ensures { EntriesDropWhatIsNamed }
+{}
+
+/// An entry without a deed leaves all snapshots as they are.
+pub fn no_deed_keeps_snapshots()
+    ensures { NoDeedKeepsSnapshots }
+{}
+
+/// No entry drops a snapshot that some relationship needs, a restart that finds a deed done either.
+pub fn entries_keep_the_needed()
+    ensures { EntriesKeepTheNeeded }
 {}

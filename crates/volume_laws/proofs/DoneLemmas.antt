@@ -20,7 +20,8 @@ use Rattle.sm_volume.specs.Mounted.{Mounted, opened, of_side, bare}
 use Rattle.sm_volume.specs.Restarted.{IsRestarted}
 use Rattle.sm_volume.specs.Shown.{KeepsBlocks, SameBlocks, NoBlock}
 use Rattle.sm_volume.specs.Commits.{Commits}
-use Rattle.sm_volume.specs.Assigned.{IsLeastFree, IsReverted, written, snapped, adopted, snapshot_of}
+use Rattle.sm_volume.specs.Assigned.{IsReverted, snapped, adopted, snapshot_of}
+use Rattle.sm_defs.specs.Operations.{IsLeastFree, written}
 use Rattle.sm_volume.specs.Refusals.{write_refusal, revert_refusal, snapshot_refusal, adopt_refusal}
 use Rattle.volume_laws.specs.declared.call.Call.{Call}
 use Rattle.volume_laws.specs.declared.call.Call.TheVariants as calls

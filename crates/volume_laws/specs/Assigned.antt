@@ -8,7 +8,8 @@ use Rattle.volume_store.specs.Held.{block_at}
 use Rattle.sm_volume.specs.Seen.{image_of}
 use Rattle.sm_volume.specs.Mounted.{Mounted, opened, bare}
 use Rattle.sm_volume.specs.Shown.{SameBlocks, NoBlock}
-use Rattle.sm_volume.specs.Assigned.{IsLeastFree, CanAdopt, written, settled, snapped, without, writable, adopted, snapshot_of, IsReverted}
+use Rattle.sm_volume.specs.Assigned.{CanAdopt, snapped, adopted, snapshot_of, IsReverted}
+use Rattle.sm_defs.specs.Operations.{IsLeastFree, written, settled, removed, writable}
 use Rattle.volume_laws.specs.declared.call.Call as the_call
 use Rattle.volume_laws.specs.declared.call.Call.TheVariants as calls
 
@@ -34,7 +35,7 @@ Assigns told (calls.Write at fill) old new =
 Assigns told calls.ConsistencyPoint old new = (new.volume ≡ settled old.volume) × SameBlocks NoBlock old.reads new.reads
 Assigns told (calls.Snapshot ident name label time) old new =
     (new.volume ≡ snapped old.volume (record { ident = ident; name = name; label = label; time = time; made = 0 })) × SameBlocks NoBlock old.reads new.reads
-Assigns told (calls.Remove drops) old new = (new.volume ≡ without old.volume drops.items) × SameBlocks NoBlock old.reads new.reads
+Assigns told (calls.Remove drops) old new = (new.volume ≡ removed old.volume drops.items) × SameBlocks NoBlock old.reads new.reads
 Assigns told calls.MakeWritable old new = (new.volume ≡ writable old.volume) × SameBlocks NoBlock old.reads new.reads
 Assigns told (calls.Revert ident drop_newer family) old new = IsReverted old.volume ident drop_newer family new.volume × SameBlocks NoBlock old.reads new.reads
 Assigns told (calls.Land number fill) old new = (new.volume ≡ old.volume) × IsPut told number fill old.reads new.reads

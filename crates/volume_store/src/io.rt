@@ -162,6 +162,13 @@ impl<D: Disk> Store<D> {
         Ok(())
     }
 
+    /// How often the disk has failed.
+    pub fn faults(&self) -> u64
+        ensures { result ≡ (D.state self.now.disk).faults }
+    {
+        self.disk.faults()
+    }
+
     /// The disk.
     pub fn into_disk(self) -> D
         ensures { result ≡ self.disk }

@@ -1,10 +1,10 @@
 use Rattle.sm_model.specs.World.{up}
 use Rattle.sm_laws.proofs.Runs.{cut}
-use Rattle.sm_laws.proofs.Soundness.{both, cut_sound}
+use Rattle.sm_laws.proofs.AnyRuns.{run_keeps}
 use Rattle.sm_laws.proofs.each_world_is_sound.Goals as goal
 
 pub returns : goal.returns
-returns c start first others sides deeds new b y s r =
+returns c start first others sides deeds new s r =
     let k = cut (up start) new first others sides deeds r in record {
       mid = k.mid;
       taken = k.taken;
@@ -15,5 +15,5 @@ returns c start first others sides deeds new b y s r =
       leads_on = k.back_runs;
       sides_are = k.sides_are;
       deeds_are = k.deeds_are;
-      sound = cut_sound (up start) new first others sides deeds y k (both s b);
+      sound = run_keeps (up start) k.mid first k.taken k.first k.front_runs s;
     }

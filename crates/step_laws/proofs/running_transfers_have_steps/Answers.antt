@@ -1,5 +1,5 @@
-use Rattle.step_laws.proofs.HasStep.{has_step}
+use Rattle.step_laws.proofs.HasEffect.{running_have_steps}
 use Rattle.step_laws.proofs.running_transfers_have_steps.Goals as goal
 
 pub returns : goal.returns
-returns c w k x s r = has_step w k x s (λ q t m e. (s.transfers_stand q t m e).ends) r
+returns c = running_have_steps

@@ -1,7 +1,7 @@
 use Rattle.sm_stream.specs.Causes.{Rose}
 use Rattle.sm_lab.specs.declared.status.Status.{Status}
 use Rattle.sm_lab.specs.Status.{takes, IsRun}
-use Rattle.sm_lab.proofs.TopLemmas.{legal, early, written}
+use Rattle.sm_lab.proofs.TopLemmas.{legal, written}
 use Rattle.sm_lab.proofs.Laws.{sound, contents, drops, bases}
 use Rattle.sm_lab.proofs.run.run_lab.Goals as goal
 
@@ -11,19 +11,13 @@ returns-clause-run g c =
     legal (g.S.Source.left c.args.script.now) (g.S.Source.left d.new.script) d.result d.new.history.items d.ensures.run.1
 
 pub returns-clause-sound : goal.returns-clause-sound
-returns-clause-sound g c =
-    let d = c.decide-status in
-    sound d.new.history.items (early (g.S.Source.left c.args.script.now) (g.S.Source.left d.new.script) d.result d.new.history.items d.ensures.run.1)
+returns-clause-sound g c = sound c.decide-status.new.history.items
 
 pub returns-clause-contents : goal.returns-clause-contents
-returns-clause-contents g c =
-    let d = c.decide-status in
-    contents d.new.history.items (early (g.S.Source.left c.args.script.now) (g.S.Source.left d.new.script) d.result d.new.history.items d.ensures.run.1)
+returns-clause-contents g c = contents c.decide-status.new.history.items
 
 pub returns-clause-drops : goal.returns-clause-drops
-returns-clause-drops g c =
-    let d = c.decide-status in
-    drops d.new.history.items (early (g.S.Source.left c.args.script.now) (g.S.Source.left d.new.script) d.result d.new.history.items d.ensures.run.1)
+returns-clause-drops g c = drops c.decide-status.new.history.items
 
 pub returns-clause-bases : goal.returns-clause-bases
 returns-clause-bases g c = bases c.decide-status.new.history.items

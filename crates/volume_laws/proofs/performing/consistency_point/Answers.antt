@@ -1,4 +1,4 @@
-use Rattle.sm_volume.specs.Assigned.{settled}
+use Rattle.sm_defs.specs.Operations.{settled}
 use Rattle.volume_laws.specs.declared.call.Call.TheVariants as calls
 use Rattle.volume_laws.specs.Assigned.{Assigns}
 use Rattle.volume_laws.specs.Answered.{Answers}

@@ -1,7 +1,7 @@
 use Rattle.std.proofs.Common.{refl, subst}
 use Rattle.volume_store.specs.Next as store
 use Rattle.sm_volume.specs.Mounted.{Mounted, mounted}
-use Rattle.sm_volume.specs.Assigned.{settled}
+use Rattle.sm_defs.specs.Operations.{settled}
 use Rattle.sm_volume.specs.Commits.{Commits}
 use Rattle.sm_volume.proofs.MountedLemmas.{commits_seen}
 use Rattle.sm_volume.proofs.volume.Volume.cp.Goals as goal

@@ -6,7 +6,7 @@ use Rattle.volume_store.specs.Held.{Shows}
 use Rattle.sm_volume.specs.Mounted.{Mounted, mounted}
 use Rattle.sm_volume.specs.Mounted.{fallen}
 use Rattle.sm_volume.specs.Shown.{Selects, KeepsBlocks}
-use Rattle.sm_volume.specs.Assigned.{IsLeastFree}
+use Rattle.sm_defs.specs.Operations.{IsLeastFree}
 use Rattle.sm_volume.specs.Refusals.{write_refusal}
 use Rattle.sm_volume.proofs.BlockLemmas.{keeps_others}
 use Rattle.sm_volume.proofs.MountedLemmas.{shows_seen}
