@@ -6,7 +6,7 @@
 # encoding's, and the most memory. At most 2.00 is wanted. It takes about five minutes; the gate
 # does not run it.
 top=$(CDPATH='' cd -- "$(dirname -- "$0")/.." && pwd) || exit 1
-program=$top/crates/volume_bench/out/volume_bench
+program=$top/crates/bench_volume/out/bench_volume
 
 if [ ! -x "$program" ]; then
     command -v rt >/dev/null 2>&1 || {
@@ -14,7 +14,7 @@ if [ ! -x "$program" ]; then
         exit 127
     }
     echo 'proving and building the program, which takes minutes the first time' >&2
-    (cd -- "$top/crates/volume_bench" && rt run) </dev/null >/dev/null || exit 1
+    (cd -- "$top/crates/bench_volume" && rt run) </dev/null >/dev/null || exit 1
 fi
 exec python3 - "$program" <<'END'
 import resource

@@ -6,14 +6,14 @@ use Rattle.sm_defs.specs.World.{Up}
 use Rattle.sm_defs.specs.Needed.{needed}
 use Rattle.sm_model.specs.World.{up}
 use Rattle.sm_model.specs.Sound.{SoundUp}
-use Rattle.step_laws.proofs.Runs.{runs_keep_needed}
-use Rattle.sm_laws.specs.Early.{IsBare}
-use Rattle.sm_laws.proofs.Empty.{empty_sound, empty_bare}
-use Rattle.sm_laws.proofs.Soundness.{is_bare, both}
-use Rattle.sm_laws.proofs.Soundness.{run_keeps as early_run_keeps}
-use Rattle.sm_laws.proofs.AnyRuns.{run_keeps}
-use Rattle.sm_laws.proofs.LastWorld.{runs_end_with_origins}
-use Rattle.sm_laws.proofs.RunLaws.{runs_drop_by_rule}
+use Rattle.laws_steps.proofs.Runs.{runs_keep_needed}
+use Rattle.laws_run.specs.Early.{IsBare}
+use Rattle.laws_run.proofs.Empty.{empty_sound, empty_bare}
+use Rattle.laws_run.proofs.Soundness.{is_bare, both}
+use Rattle.laws_run.proofs.Soundness.{run_keeps as early_run_keeps}
+use Rattle.laws_run.proofs.AnyRuns.{run_keeps}
+use Rattle.laws_run.proofs.LastWorld.{runs_end_with_origins}
+use Rattle.laws_run.proofs.RunLaws.{runs_drop_by_rule}
 use Rattle.sm_lab.specs.Node.{start, plain_disks}
 use Rattle.sm_lab.specs.History.{Reaches, EachWorld, EachDeed, ShowsOrigins, DropsAsNamed, KeepsNeeded}
 

@@ -23,7 +23,7 @@ use Rattle.sm_defs.specs.World.{Up, with_volume, volume_at}
 use Rattle.sm_model.specs.Answers.{Answer, and_then, refused_if, some_or, volume_named, volno, told, shows}
 use Rattle.sm_model.specs.OfVolumes as volumes
 use Rattle.sm_defs.specs.Operations as operations
-use Rattle.sm_laws.specs.Early.{IsEarly, creates, writes, snaps, reads, heads, lists, digests}
+use Rattle.laws_run.specs.Early.{IsEarly, creates, writes, snaps, reads, heads, lists, digests}
 use Rattle.sm_lab.specs.Node.{volume_of, IsAnswered, IsWritten, IsSnapped, IsShown, ChangesOne, write_test, snap_test, read_test, create_test}
 use Rattle.sm_lab.specs.declared.volume.Volume.{Volume}
 

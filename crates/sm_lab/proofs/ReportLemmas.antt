@@ -10,7 +10,7 @@ use Rattle.sm_defs.specs.World.{Up, volume_at}
 use Rattle.sm_model.specs.Answers.{volno}
 use Rattle.sm_model.specs.Asked.{events_of_volume, events_of_volumes, event_of_relation, report_events}
 use Rattle.sm_model.specs.InRange.{IsGiven, IsThere, IsPlace}
-use Rattle.sm_laws.specs.Early.{IsEarly, heads, lists, digests, IsBare}
+use Rattle.laws_run.specs.Early.{IsEarly, heads, lists, digests, IsBare}
 use Rattle.sm_lab.specs.Reporting.{IsLook}
 
 -- what makes an event of the report go through

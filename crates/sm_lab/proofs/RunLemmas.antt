@@ -13,10 +13,10 @@ use Rattle.sm_model.specs.Asked.{Asked}
 use Rattle.sm_model.specs.InRange.{IsGiven, IsThere}
 use Rattle.sm_model.specs.LegalRun.{Fits, done, quiet, IsDone, IsRefused}
 use Rattle.sm_script.specs.Grammar.{IsCommand}
-use Rattle.sm_laws.specs.Early.{IsEarly, creates, writes, snaps, reads, heads, lists, digests, IsFaultless, AllFaultless}
-use Rattle.sm_laws.proofs.Runs as runs
-use Rattle.sm_laws.proofs.Entries.{done_deed, refused_quiet, all_joined}
-use Rattle.sm_laws.proofs.Faultless.{done_faultless, refused_faultless, faults_rise}
+use Rattle.laws_run.specs.Early.{IsEarly, creates, writes, snaps, reads, heads, lists, digests, IsFaultless, AllFaultless}
+use Rattle.laws_run.proofs.Runs as runs
+use Rattle.laws_run.proofs.Entries.{done_deed, refused_quiet, all_joined}
+use Rattle.laws_run.proofs.Faultless.{done_faultless, refused_faultless, faults_rise}
 use Rattle.sm_lab.specs.Node.{start, Answers}
 use Rattle.sm_lab.specs.Reporting.{IsLook}
 use Rattle.sm_lab.specs.History.{Reaches, Begins}

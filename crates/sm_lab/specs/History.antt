@@ -12,8 +12,8 @@ use Rattle.sm_model.specs.LegalRun.{Run, IsLegal as IsLegalRun}
 use Rattle.sm_model.specs.Asked.{Asked, asking, asked_of, report_events}
 use Rattle.sm_model.specs.Standing.{Stands}
 use Rattle.sm_model.specs.Drops.{Drops, NamedFor}
-use Rattle.step_laws.specs.Contents.{HasOrigin}
-use Rattle.sm_laws.specs.Early.{AllEarly, AllFaultless}
+use Rattle.laws_steps.specs.Contents.{HasOrigin}
+use Rattle.laws_run.specs.Early.{AllEarly, AllFaultless}
 use Rattle.sm_lab.specs.Node.{start}
 
 -- from the empty world the entries lead to this world, with these deeds

@@ -2,7 +2,7 @@ ghost use Rattle.std.specs.Prelude.{◌≡◌, ◌++◌, ◌∷◌, [], All, map
 ghost use Rattle.sm_model.specs.Asked.{asked_of, asking, report_events};
 ghost use Rattle.sm_model.specs.InRange.{IsGiven, IsThere};
 ghost use Rattle.sm_script.specs.Grammar.{IsCommand};
-ghost use Rattle.sm_laws.specs.Early.{IsEarly};
+ghost use Rattle.laws_run.specs.Early.{IsEarly};
 ghost use Rattle.sm_lab.specs.Reporting.{IsLook};
 ghost use Rattle.sm_lab.specs.History.{Reaches, HasBegun, asked_by};
 

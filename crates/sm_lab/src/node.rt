@@ -9,7 +9,7 @@ ghost use Rattle.sm_model.specs.OfReport as reports;
 ghost use Rattle.sm_model.specs.declared.reply.Reply.TheVariants as replies;
 ghost use Rattle.sm_base.specs.declared.refusal.Refusal.TheVariants as refusals;
 ghost use Rattle.sm_defs.specs.Limits.{most_volumes};
-ghost use Rattle.sm_laws.specs.Early.{IsEarly};
+ghost use Rattle.laws_run.specs.Early.{IsEarly};
 ghost use Rattle.sm_lab.specs.Node.{start, IsAnswered, Answers, IsWritten, IsSnapped, ChangesOne, create_test, write_test, snap_test, volume_of};
 
 use crate::volume::Volume;

@@ -2,7 +2,7 @@ ghost use Rattle.std.specs.Prelude.{◌≡◌, ◌++◌, ◌<◌, ◌≤◌, len
 ghost use Rattle.sm_defs.specs.World.{volume_at};
 ghost use Rattle.sm_model.specs.Answers.{volno};
 ghost use Rattle.sm_model.specs.Asked.{report_events, digest_events, events_of_volume};
-ghost use Rattle.sm_laws.specs.Early.{IsBare};
+ghost use Rattle.laws_run.specs.Early.{IsBare};
 
 use crate::node::Node;
 use sm_base::{NoMemory, VolNo};

@@ -1,0 +1,12 @@
+use oracle_world::PlainVolume;
+use sm_model::{WorldPolicy, WorldRelation, WorldTransfer};
+
+/// A relationship with its transfer, its policy and its two volumes.
+#[derive(Clone, Copy)]
+pub struct PlainRunning<'a> {
+    pub relation: &'a WorldRelation,
+    pub transfer: &'a WorldTransfer,
+    pub policy: &'a WorldPolicy,
+    pub source: &'a PlainVolume,
+    pub destination: &'a PlainVolume,
+}

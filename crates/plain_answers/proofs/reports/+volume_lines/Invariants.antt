@@ -1,5 +1,0 @@
-use Rattle.std.proofs.Common.{length}
-use Rattle.plain_answers.proofs.reports.+volume_lines.Given as goal
-
-abbrev pub decreases-volume_lines : goal.decreases-volume_lines
-decreases-volume_lines l = length l.volumes.now

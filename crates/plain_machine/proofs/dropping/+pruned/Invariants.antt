@@ -1,5 +1,0 @@
-use Rattle.std.proofs.Common.{length}
-use Rattle.plain_machine.proofs.dropping.+pruned.Given as goal
-
-abbrev pub decreases-pruned : goal.decreases-pruned
-decreases-pruned l = length l.destination.now

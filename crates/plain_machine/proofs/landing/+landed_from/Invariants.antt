@@ -1,5 +1,0 @@
-use Rattle.std.proofs.Common.{length}
-use Rattle.plain_machine.proofs.landing.+landed_from.Given as goal
-
-abbrev pub decreases-landed_from : goal.decreases-landed_from
-decreases-landed_from l = length l.leg.now

@@ -1,5 +1,0 @@
-use Rattle.std.proofs.Common.{length}
-use Rattle.plain_machine.proofs.lists.+has_copy.Given as goal
-
-abbrev pub decreases-has_copy : goal.decreases-has_copy
-decreases-has_copy l = length l.snapshots.now

@@ -1,4 +1,0 @@
-use Rattle.plain_machine.proofs.numbers.+prefix_from.Given as goal
-
-abbrev pub decreases-prefix_from : goal.decreases-prefix_from
-decreases-prefix_from l = l.count

@@ -1,5 +1,0 @@
-use Rattle.std.proofs.Common.{length}
-use Rattle.plain_machine.proofs.sending.+idents_of.Given as goal
-
-abbrev pub decreases-idents_of : goal.decreases-idents_of
-decreases-idents_of l = length l.snapshots.now

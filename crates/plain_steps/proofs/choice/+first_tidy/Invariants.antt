@@ -1,4 +1,0 @@
-use Rattle.plain_steps.proofs.choice.+first_tidy.Given as goal
-
-abbrev pub decreases-first_tidy : goal.decreases-first_tidy
-decreases-first_tidy l = l.count

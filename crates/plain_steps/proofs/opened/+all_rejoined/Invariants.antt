@@ -1,5 +1,0 @@
-use Rattle.std.proofs.Common.{length}
-use Rattle.plain_steps.proofs.opened.+all_rejoined.Given as goal
-
-abbrev pub decreases-all_rejoined : goal.decreases-all_rejoined
-decreases-all_rejoined l = length l.relations.now

@@ -1,5 +1,0 @@
-use Rattle.std.proofs.Common.{length}
-use Rattle.plain_steps.proofs.opened.+all_reopened.Given as goal
-
-abbrev pub decreases-all_reopened : goal.decreases-all_reopened
-decreases-all_reopened l = length l.volumes.now

@@ -1,5 +1,0 @@
-use Rattle.std.proofs.Common.{length}
-use Rattle.plain_steps.proofs.publishing.+untidied_of.Given as goal
-
-abbrev pub decreases-untidied_of : goal.decreases-untidied_of
-decreases-untidied_of l = length l.snapshots.now

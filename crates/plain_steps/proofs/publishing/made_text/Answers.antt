@@ -1,5 +1,0 @@
-use Rattle.std.proofs.Common.{append_assoc, refl}
-use Rattle.plain_steps.proofs.publishing.made_text.Goals as goal
-
-pub returns : goal.returns
-returns c = simp (c.in_ok-format.ensures.ok, append_assoc) refl

@@ -1,5 +1,0 @@
-use Rattle.std.proofs.Common.{length}
-use Rattle.plain_steps.proofs.shipping.+with_ident.Given as goal
-
-abbrev pub decreases-with_ident : goal.decreases-with_ident
-decreases-with_ident l = length l.snapshots.now

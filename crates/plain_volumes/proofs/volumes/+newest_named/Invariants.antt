@@ -1,5 +1,0 @@
-use Rattle.std.proofs.Common.{length}
-use Rattle.plain_volumes.proofs.volumes.+newest_named.Given as goal
-
-abbrev pub decreases-newest_named : goal.decreases-newest_named
-decreases-newest_named l = length l.snapshots.now

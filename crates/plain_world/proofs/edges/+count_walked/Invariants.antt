@@ -1,5 +1,0 @@
-use Rattle.std.proofs.Common.{length}
-use Rattle.plain_world.proofs.edges.+count_walked.Given as goal
-
-abbrev pub decreases-count_walked : goal.decreases-count_walked
-decreases-count_walked l = length l.relations.now

@@ -1,5 +1,0 @@
-use Rattle.step_laws.proofs.EntryDrops.{entries_drop_named}
-use Rattle.step_laws.proofs.entries_drop_what_is_named.Goals as goal
-
-pub returns : goal.returns
-returns c = entries_drop_named

@@ -1,5 +1,0 @@
-use Rattle.step_laws.proofs.EntryDrops.{entries_keep_needed}
-use Rattle.step_laws.proofs.entries_keep_the_needed.Goals as goal
-
-pub returns : goal.returns
-returns c = entries_keep_needed

@@ -1,5 +1,0 @@
-use Rattle.transfer_laws.proofs.Kept.{names_first}
-use Rattle.transfer_laws.proofs.keep_reached_names_the_first.Goals as goal
-
-pub returns : goal.returns
-returns c = names_first

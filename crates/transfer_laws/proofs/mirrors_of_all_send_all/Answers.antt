@@ -1,5 +1,0 @@
-use Rattle.transfer_laws.proofs.Sent.{all_send_all}
-use Rattle.transfer_laws.proofs.mirrors_of_all_send_all.Goals as goal
-
-pub returns : goal.returns
-returns c = all_send_all

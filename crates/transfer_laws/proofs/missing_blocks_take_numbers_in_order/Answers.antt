@@ -1,5 +1,0 @@
-use Rattle.transfer_laws.proofs.Landed.{in_order}
-use Rattle.transfer_laws.proofs.missing_blocks_take_numbers_in_order.Goals as goal
-
-pub returns : goal.returns
-returns c = in_order

@@ -1,7 +1,0 @@
-use Rattle.std.proofs.Common.{refl}
-use Rattle.volume_laws.proofs.DoneLemmas.{done_land}
-use Rattle.volume_laws.proofs.performing.land.Goals as goal
-
-pub returns : goal.returns
-returns g c =
-    done_land g.D.Disk.state c.args.number c.args.fill _ c.args.v.now c.land.new.self c.land.result refl c.requires.up c.land.ensures.refused c.land.ensures.ok c.land.ensures.block c.land.ensures.blocks
