@@ -4,7 +4,7 @@ use Rattle.std.specs.Prelude.{slice_get, slice_index_or, ◌%◌}
 use Rattle.std.specs.List.{find, filter}
 use Rattle.std.proofs.lemmas.Option.{same_Some}
 use Rattle.sm_base.specs.declared.refusal.Reason.{Reason}
-use Rattle.sm_defs.specs.Limits.{window}
+use Rattle.sm_base.specs.declared.limits.TheConstants.{WINDOW}
 use Rattle.sm_defs.specs.Words.{Among, Found}
 use Rattle.sm_defs.specs.Volume.{Snapshot, numbers}
 use Rattle.sm_defs.specs.Relationship.{Relationship, Transfer}
@@ -44,7 +44,7 @@ taken_among a (y ∷ ys) x e = get_among (y ∷ ys) (a % length (y ∷ ys)) x e
 by_shipping : (w : Up) (a k : ℕ) (x : Running) (leg : Snapshot) (e : Effect) (o : Option ℕ) → taken a (shippable x (cost x leg)) ≡ o → Rattle.sm_model.specs.Choice.shipped w k x leg o ≡ Some e → IsEffect w k x (ship leg) e
 by_shipping w a k x leg e None t i = absurd (cc)
 by_shipping w a k x leg e (Some index) t i =
-    (index, (among_filter (may_ship x (cost x leg)) (numbers 0 (x.transfer.checkpoint + window)) index (taken_among a (shippable x (cost x leg)) index t)).1, sym (same_Some _ e i))
+    (index, (among_filter (may_ship x (cost x leg)) (numbers 0 (x.transfer.checkpoint + WINDOW)) index (taken_among a (shippable x (cost x leg)) index t)).1, sym (same_Some _ e i))
 
 pub by_kind : (w : Up) (a k : ℕ) (x : Running) (e : Effect) (o : Option StepKind) → effect_for w a k x o ≡ Some e → (kind : StepKind) × (o ≡ Some kind) × IsEffect w k x kind e
 by_kind w a k x e None i = absurd (cc)

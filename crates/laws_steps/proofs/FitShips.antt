@@ -3,7 +3,7 @@ use Rattle.std.proofs.Common.{◌≡◌, ◌⊎◌, ◌≤◌, ◌<◌, ◌+◌,
 use Rattle.std.specs.List.{AllByRecursion}
 use Rattle.std.proofs.lemmas.Bool.{ltb-true, ltb-false, both_ways, cases_order}
 use Rattle.std.proofs.lemmas.Option.{same_Some}
-use Rattle.sm_defs.specs.Limits.{window}
+use Rattle.sm_base.specs.declared.limits.TheConstants.{WINDOW}
 use Rattle.sm_defs.specs.Words.{Among}
 use Rattle.sm_defs.specs.Image.{stands}
 use Rattle.sm_defs.specs.Volume.{Snapshot, has, free}
@@ -103,20 +103,20 @@ ascends_insert k (l ∷ ls) a n = go (nat_lt k l) refl (ascends_insert k ls a.1 
     go true b ih = (below_all k (l ∷ ls) (λ j m. above j (ltb-true k l b) m), a)
     go false b ih = (below_all l (insert_landed k ls) (λ j m. later b j (among_insert k ls j m)), ih)
 
-pub window_ships : (t : Transfer) (k : ℕ) → InWindow t → stands k t.landed ≡ false → k < t.checkpoint + window → InWindow (record t { landed = insert_landed k t.landed })
+pub window_ships : (t : Transfer) (k : ℕ) → InWindow t → stands k t.landed ≡ false → k < t.checkpoint + WINDOW → InWindow (record t { landed = insert_landed k t.landed })
 window_ships t k w n l = record {
   ascends = ascends_insert k t.landed w.ascends (λ m. both_ways (stands k t.landed) n (among_stands k t.landed m));
   below = λ j b. insert_among k t.landed j (w.below j b);
   near = λ j m. go j (among_insert k t.landed j m);
 }
   where
-    go : (j : ℕ) → (j ≡ k) ⊎ Among t.landed j → j < t.checkpoint + window
+    go : (j : ℕ) → (j ≡ k) ⊎ Among t.landed j → j < t.checkpoint + WINDOW
     go j (inl e) = omega (arith, e, l)
     go j (inr m) = w.near j m
 
 -- ---- a checkpoint
 
-pub window_checks : (t : Transfer) → InWindow t → landed_prefix t.landed ≡ t.checkpoint + window → InWindow (record t { checkpoint = landed_prefix t.landed })
+pub window_checks : (t : Transfer) → InWindow t → landed_prefix t.landed ≡ t.checkpoint + WINDOW → InWindow (record t { checkpoint = landed_prefix t.landed })
 window_checks t w e = record {
   ascends = w.ascends;
   below = λ j b. stands_among j t.landed ((prefix_is (length t.landed) 0 t.landed).all j (omega arith) b);

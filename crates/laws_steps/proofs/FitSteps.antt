@@ -8,7 +8,7 @@ use Rattle.sm_base.specs.declared.numbers.Kind.TheVariants.{Rw}
 use Rattle.sm_base.specs.declared.refusal.Reason.{Reason}
 use Rattle.sm_base.specs.declared.refusal.Reason.TheVariants.{NoSpace}
 use Rattle.sm_defs.specs.Edges.{is_empty}
-use Rattle.sm_defs.specs.Limits.{window}
+use Rattle.sm_base.specs.declared.limits.TheConstants.{WINDOW}
 use Rattle.sm_defs.specs.Missing.{vault_landing}
 use Rattle.sm_defs.specs.Needed.{needed, holder}
 use Rattle.sm_defs.specs.Retention.{retained}
@@ -121,11 +121,11 @@ module _ (w : Up) (k : ℕ) (x : Running) (s : SoundUp w) (r : IsRunning w k x) 
       (alike (with_transfer x.relation t) t refl refl refl refl) a refl (λ m _. checked (is_mirror x.policy.kind) x.transfer.pruned x.transfer.checkpoint u m)
       (λ m p z. absurd (let e = far in omega (arith, e, z))) (let b = below in omega (arith, b)) (λ j m. (under_way leg a some).landed leg j (as_leg leg a) m) ((under_way leg a some).room leg (as_leg leg a)) (window_checks x.transfer (fits.window r.runs) far) fits)
     where
-      far : landed_prefix x.transfer.landed ≡ x.transfer.checkpoint + window
-      far = eqb-true (landed_prefix x.transfer.landed) (x.transfer.checkpoint + window) (and_parts (landed_prefix x.transfer.landed == x.transfer.checkpoint + window) (nat_lt (landed_prefix x.transfer.landed) (cost x leg)) c).0
+      far : landed_prefix x.transfer.landed ≡ x.transfer.checkpoint + WINDOW
+      far = eqb-true (landed_prefix x.transfer.landed) (x.transfer.checkpoint + WINDOW) (and_parts (landed_prefix x.transfer.landed == x.transfer.checkpoint + WINDOW) (nat_lt (landed_prefix x.transfer.landed) (cost x leg)) c).0
 
       below : landed_prefix x.transfer.landed < cost x leg
-      below = ltb-true (landed_prefix x.transfer.landed) (cost x leg) (and_parts (landed_prefix x.transfer.landed == x.transfer.checkpoint + window) (nat_lt (landed_prefix x.transfer.landed) (cost x leg)) c).1
+      below = ltb-true (landed_prefix x.transfer.landed) (cost x leg) (and_parts (landed_prefix x.transfer.landed == x.transfer.checkpoint + WINDOW) (nat_lt (landed_prefix x.transfer.landed) (cost x leg)) c).1
 
       some : IsUnderWay x.transfer
       some = inr (λ z. let e : landed_prefix x.transfer.landed ≡ 0 = ap landed_prefix z in let f = far in omega (arith, e, f))
@@ -145,10 +145,10 @@ module _ (w : Up) (k : ℕ) (x : Running) (s : SoundUp w) (r : IsRunning w k x) 
       (fits_going x (running_in w (with_transfer x.relation (record x.transfer { landed = insert_landed index x.transfer.landed })) (record x.transfer { landed = insert_landed index x.transfer.landed })) leg
       (alike (with_transfer x.relation (record x.transfer { landed = insert_landed index x.transfer.landed })) (record x.transfer { landed = insert_landed index x.transfer.landed }) refl refl refl refl) a refl (λ m c. c)
       (λ m p z. absurd (not_both_ways (checked (is_mirror x.policy.kind) x.transfer.pruned x.transfer.checkpoint u m) p z)) (near x.transfer.checkpoint refl) (λ j m. landed j (among_insert index x.transfer.landed j m))
-      (λ v. room v (no_room (cost x leg) o v x.transfer.landed refl)) (window_ships x.transfer index (fits.window r.runs) (not-true _ tests.0.0) (ltb-true index (x.transfer.checkpoint + window) tests.1)) fits)
+      (λ v. room v (no_room (cost x leg) o v x.transfer.landed refl)) (window_ships x.transfer index (fits.window r.runs) (not-true _ tests.0.0) (ltb-true index (x.transfer.checkpoint + WINDOW) tests.1)) fits)
     where
-      tests : ((not (stands index x.transfer.landed) ≡ true) × (nat_lt index (cost x leg) ≡ true)) × (nat_lt index (x.transfer.checkpoint + window) ≡ true)
-      tests = let p = and_parts (not (stands index x.transfer.landed) && nat_lt index (cost x leg)) (nat_lt index (x.transfer.checkpoint + window)) may in
+      tests : ((not (stands index x.transfer.landed) ≡ true) × (nat_lt index (cost x leg) ≡ true)) × (nat_lt index (x.transfer.checkpoint + WINDOW) ≡ true)
+      tests = let p = and_parts (not (stands index x.transfer.landed) && nat_lt index (cost x leg)) (nat_lt index (x.transfer.checkpoint + WINDOW)) may in
           let q = and_parts (not (stands index x.transfer.landed)) (nat_lt index (cost x leg)) p.0 in ((q.0, q.1), p.1)
 
       not_both_ways : IsChecked x.transfer → x.transfer.pruned ≡ false → x.transfer.checkpoint ≡ 0 → ⊥

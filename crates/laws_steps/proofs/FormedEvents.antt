@@ -9,7 +9,7 @@ use Rattle.sm_base.specs.declared.numbers.Kind.{Kind}
 use Rattle.sm_base.specs.declared.numbers.PolicyKind.{PolicyKind}
 use Rattle.sm_base.specs.declared.numbers.TransferKind.{TransferKind}
 use Rattle.sm_base.specs.declared.numbers.TransferKind.TheVariants.{Initialize, Update, Resync}
-use Rattle.sm_defs.specs.Limits.{most_volumes, most_policies, most_relations, most_snapshots, most_rules, last_number, last_relation, last_second}
+use Rattle.sm_base.specs.declared.limits.TheConstants.{MOST_VOLUMES, MOST_POLICIES, MOST_RELATIONS, MOST_SNAPSHOTS, MOST_RULES, LAST_NUMBER, LAST_RELATION, LAST_SECOND}
 use Rattle.sm_defs.specs.Words.{Among, Found}
 use Rattle.sm_defs.specs.Edges.{is_empty}
 use Rattle.sm_defs.specs.Volume.{Volume, Snapshot, used, has, no_volume, new_volume}
@@ -51,7 +51,7 @@ IsFormed r = Formed r.world
 
 create_volume : (w : Up) (path : List ℕ) (disk : DiskNo) (kind : Kind) (l p : ℕ) → SoundUp w → IsCreation path disk.0 l p → OfOk IsFormed (volumes.create_volume w path disk kind l p)
 create_volume w path disk kind l p s g = past _ _ _ _ (λ a. past _ _ _ _ (λ _. with_found _ _ _ _ (λ len _. past _ _ _ _ (λ b. past _ _ _ _ (λ c. past _ _ _ _ (λ _. now IsFormed _
-    (formed_push w (new_volume path disk.0 kind (length w.volumes) l p) (below_bound (length w.volumes) most_volumes s.formed.few c) (no_such_path w.volumes path a) (no_such_disk w.volumes disk.0 b) s.formed
+    (formed_push w (new_volume path disk.0 kind (length w.volumes) l p) (below_bound (length w.volumes) MOST_VOLUMES s.formed.few c) (no_such_path w.volumes path a) (no_such_disk w.volumes disk.0 b) s.formed
     (formed_new path disk.0 kind (length w.volumes) l p g))))))))
 
 write : (w : Up) (path : List ℕ) (block fill : ℕ) → SoundUp w → fill ≤ 255 → OfOk IsFormed (volumes.write w path block fill)
@@ -61,10 +61,10 @@ write w path block fill s g = with_found _ _ _ _ (λ v is. past _ _ _ _ (λ _. p
 
 snap : (w : Up) (path name : List ℕ) (label : Option (List ℕ)) → SoundUp w → IsSnap path name label → OfOk IsFormed (volumes.snap w path name label)
 snap w path name label s g = with_found _ _ _ _ (λ v is. past _ _ _ _ (λ _. past _ _ _ _ (λ _. past _ _ _ _ (λ c. let a = volume_at_place w _ v is in
-    let q = or_parts (length v.item.snapshots == most_snapshots) (v.item.next == last_number) c in let f = s.formed.volumes v.item a.among in now IsFormed _
+    let q = or_parts (length v.item.snapshots == MOST_SNAPSHOTS) (v.item.next == LAST_NUMBER) c in let f = s.formed.volumes v.item a.among in now IsFormed _
     (formed_at w v.at _ (ap path_of (sym a.at)) (ap disk_of (sym a.at)) s.formed
-    (formed_counted _ (below_bound v.item.next last_number f.counted.1 q.1)
-    (formed_taken v.item (volumes.client_snapshot v.at w.clock v.item name label) refl (record { name = g.name_given; label = g.label_given; time = let l = s.formed.clock in omega (arith, l) }) (below_bound (length v.item.snapshots) most_snapshots f.few q.0) f)))))))
+    (formed_counted _ (below_bound v.item.next LAST_NUMBER f.counted.1 q.1)
+    (formed_taken v.item (volumes.client_snapshot v.at w.clock v.item name label) refl (record { name = g.name_given; label = g.label_given; time = let l = s.formed.clock in omega (arith, l) }) (below_bound (length v.item.snapshots) MOST_SNAPSHOTS f.few q.0) f)))))))
 
 unsnap : (w : Up) (path name : List ℕ) → SoundUp w → OfOk IsFormed (volumes.unsnap w path name)
 unsnap w path name s = with_ok _ _ _ (λ v is. with_ok _ _ _ (λ t _. past _ _ _ _ (λ _. with_held _ _ _ (λ _. let a = named_at_place w path v is in now IsFormed _
@@ -81,25 +81,25 @@ read w path name block s = with_found _ _ _ _ (λ v _. with_ok _ _ _ (λ i _. pa
 
 create_policy : (w : Up) (name : List ℕ) (kind : PolicyKind) → SoundUp w → is_part name ≡ true → OfOk IsFormed (policies.create_policy w name kind)
 create_policy w name kind s g = past _ _ _ _ (λ a. past _ _ _ _ (λ b. now IsFormed _
-    (policy_pushed w (policies.new_policy name kind) (below_bound (length w.policies) most_policies s.formed.few_policies b) (no_such_name w.policies name a) s.formed (formed_policy name kind g))))
+    (policy_pushed w (policies.new_policy name kind) (below_bound (length w.policies) MOST_POLICIES s.formed.few_policies b) (no_such_name w.policies name a) s.formed (formed_policy name kind g))))
 
 add_rule : (w : Up) (name label : List ℕ) (keep : ℕ) (preserve : Bool) → SoundUp w → is_label label ≡ true → OfOk IsFormed (policies.add_rule w name label keep preserve)
 add_rule w name label keep preserve s g = with_found _ _ _ _ (λ p is. past _ _ _ _ (λ a. past _ _ _ _ (λ b. past _ _ _ _ (λ c. past _ _ _ _ (λ d.
     let f = s.formed.policies p.item (found_among _ w.policies p is) in now IsFormed _
     (policy_at_place w p.at _ (ap policy_name (sym (found_at _ w.policies p no_policy is))) s.formed
-    (formed_with_rule p.item (record { label = label; keep = keep; preserve = preserve }) g a b c (below_bound (length p.item.rules) most_rules f.few d) f)))))))
+    (formed_with_rule p.item (record { label = label; keep = keep; preserve = preserve }) g a b c (below_bound (length p.item.rules) MOST_RULES f.few d) f)))))))
 
-set_clock : (w : Up) (time : ℕ) → SoundUp w → time ≤ last_second → OfOk IsFormed (policies.set_clock w time)
+set_clock : (w : Up) (time : ℕ) → SoundUp w → time ≤ LAST_SECOND → OfOk IsFormed (policies.set_clock w time)
 set_clock w time s g = past _ _ _ _ (λ _. now IsFormed _ (at_later w time g s.formed))
 
 -- ---- relationships
 
 relate : (w : Up) (s d p : List ℕ) → SoundUp w → OfOk IsFormed (relations.relate w s d p)
 relate w s d p h = with_found _ _ _ _ (λ s _. with_found _ _ _ _ (λ d _. with_found _ _ _ _ (λ p _. with_held _ _ _ (λ _. past _ _ _ _ (λ _. past _ _ _ _ (λ _. past _ _ _ _ (λ c.
-    let q = or_parts (length w.relations == most_relations) (w.next_relation == last_relation) c in
-    let few : w.next_relation < last_relation = below_bound w.next_relation last_relation h.formed.relations_counted.1 q.1 in now IsFormed _
+    let q = or_parts (length w.relations == MOST_RELATIONS) (w.next_relation == LAST_RELATION) c in
+    let few : w.next_relation < LAST_RELATION = below_bound w.next_relation LAST_RELATION h.formed.relations_counted.1 q.1 in now IsFormed _
     (counted_on _ (suc w.next_relation) w.next_transfer (omega arith, omega (arith, few)) h.formed.transfers_counted
-    (relation_pushed w (relations.new_relation w.next_relation s.at d.at p.at) (below_bound (length w.relations) most_relations h.formed.few_relations q.0) (λ r m. (h.crossed.relations r m).given) h.formed
+    (relation_pushed w (relations.new_relation w.next_relation s.at d.at p.at) (below_bound (length w.relations) MOST_RELATIONS h.formed.few_relations q.0) (λ r m. (h.crossed.relations r m).given) h.formed
     (record { half = refl; transfer = λ t e. absurd (cc) }))))))))))
 
 progress_carried : (r q : Relationship) → q.source ≡ r.source → q.transfer ≡ r.transfer → FormedProgress r → FormedProgress q
@@ -131,11 +131,11 @@ only_transfer q u e f t g = subst (FormedTransfer q) (same_Some u t (sym e ∙ g
 
 -- the next transfer, of a source that has not too many snapshots
 starts_formed : (w : Up) (r : Found Relationship) (q : Relationship) (kind : TransferKind) (base : Option Ident) (there : List Snapshot) → SoundUp w → RelationAt w r → q.number ≡ r.item.number → q.source ≡ r.item.source → has_a_half q ≡ true →
-    q.transfer ≡ Some (transfers.new_transfer w.next_transfer kind (transfers.next_legs w r.item base there)) → (w.next_transfer == last_number) ≡ false → Formed (transfers.with_next_transfer w r.at q)
+    q.transfer ≡ Some (transfers.new_transfer w.next_transfer kind (transfers.next_legs w r.item base there)) → (w.next_transfer == LAST_NUMBER) ≡ false → Formed (transfers.with_next_transfer w r.at q)
 starts_formed w r q kind base there s a n e half t c =
     let within : r.item.source < length w.volumes = (s.crossed.relations r.item a.among).source in
-    let few : length (volume_at w r.item.source).snapshots ≤ most_snapshots = (s.formed.volumes (volume_at w r.item.source) (among_get_or w.volumes r.item.source no_volume within)).few in
-    let below : w.next_transfer < last_number = below_bound w.next_transfer last_number s.formed.transfers_counted.1 c in
+    let few : length (volume_at w r.item.source).snapshots ≤ MOST_SNAPSHOTS = (s.formed.volumes (volume_at w r.item.source) (among_get_or w.volumes r.item.source no_volume within)).few in
+    let below : w.next_transfer < LAST_NUMBER = below_bound w.next_transfer LAST_NUMBER s.formed.transfers_counted.1 c in
     counted_on (with_relation w r.at q) w.next_relation (suc w.next_transfer) s.formed.relations_counted (omega arith, omega (arith, below))
     (relation_set w r.at q (n ∙ number_at a) s.formed (record {
       half = half;

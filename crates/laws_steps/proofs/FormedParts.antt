@@ -11,7 +11,7 @@ use Rattle.sm_base.specs.declared.numbers.Kind.TheVariants.{Rw, Dp}
 use Rattle.sm_base.specs.declared.numbers.PolicyKind.{PolicyKind}
 use Rattle.sm_base.specs.declared.numbers.PolicyKind.TheVariants.{AsyncMirror, Vault}
 use Rattle.sm_base.specs.declared.numbers.TransferKind.{TransferKind}
-use Rattle.sm_defs.specs.Limits.{most_rules, most_kept, most_snapshots}
+use Rattle.sm_base.specs.declared.limits.TheConstants.{MOST_RULES, MOST_KEPT, MOST_SNAPSHOTS}
 use Rattle.sm_defs.specs.Words.{Among, after}
 use Rattle.sm_defs.specs.Thinned.{Thinned, end, kept, left_out}
 use Rattle.sm_defs.specs.Volume.{Snapshot, numbers, has, idents}
@@ -33,7 +33,7 @@ first_formed AsyncMirror r (inl e) = subst FormedRule (sym e) (record { label = 
 first_formed AsyncMirror r (inr m) = absurd m
 first_formed Vault r m = absurd m
 
-few_first : (kind : PolicyKind) → length (first_rules kind) ≤ most_rules
+few_first : (kind : PolicyKind) → length (first_rules kind) ≤ MOST_RULES
 few_first AsyncMirror = omega arith
 few_first Vault = omega arith
 
@@ -54,12 +54,12 @@ some_kept : (kind : PolicyKind) (keep : ℕ) → is_bad_keep kind keep ≡ false
 some_kept AsyncMirror keep e = let h = eqb-true keep 1 (not-false (keep == 1) e) in omega arith
 some_kept Vault keep e = let h = eqb-false keep 0 (or_parts (keep == 0) _ e).0 in omega arith
 
-few_kept : (kind : PolicyKind) (keep : ℕ) → is_bad_keep kind keep ≡ false → keep ≤ most_kept
+few_kept : (kind : PolicyKind) (keep : ℕ) → is_bad_keep kind keep ≡ false → keep ≤ MOST_KEPT
 few_kept AsyncMirror keep e = let h = eqb-true keep 1 (not-false (keep == 1) e) in omega arith
-few_kept Vault keep e = let h = ltb-false most_kept keep (or_parts (keep == 0) _ e).1 in omega arith
+few_kept Vault keep e = let h = ltb-false MOST_KEPT keep (or_parts (keep == 0) _ e).1 in omega arith
 
 pub formed_with_rule : (p : Policy) (r : Rule) → is_label r.label ≡ true → is_wrong_rule p.kind r.label r.preserve ≡ false → is_bad_keep p.kind r.keep ≡ false → is_some (rule_for p.rules (Some r.label)) ≡ false →
-    length p.rules < most_rules → FormedPolicy p → FormedPolicy (with_rule p r)
+    length p.rules < MOST_RULES → FormedPolicy p → FormedPolicy (with_rule p r)
 formed_with_rule p r g a b c l f =
     let (more, e, h) = f.added in record {
       name = f.name;
@@ -127,22 +127,22 @@ length_mapped_to : (ss : List Snapshot) → length (idents ss) ≡ length ss
 length_mapped_to [] = refl
 length_mapped_to (s ∷ ss) = ap suc (length_mapped_to ss)
 
-few_mirror : (all : Bool) (kind : Kind) (made : Ident) (sent : List Snapshot) → length sent ≤ most_snapshots → length (mirror_legs all kind made sent).idents ≤ suc most_snapshots
+few_mirror : (all : Bool) (kind : Kind) (made : Ident) (sent : List Snapshot) → length sent ≤ MOST_SNAPSHOTS → length (mirror_legs all kind made sent).idents ≤ suc MOST_SNAPSHOTS
 few_mirror true Rw made sent h = let a = length_mapped_to sent in let b = length-append (idents sent) (made ∷ []) in omega arith
 few_mirror false Rw made sent h = omega arith
 few_mirror true Dp made sent h = let a = length_mapped_to sent in omega arith
 few_mirror false Dp made sent h = let a = length_mapped_to (only_newest sent) in let b = few_newest sent in omega arith
 
-few_vault : (rules : List Rule) (sent : List Snapshot) → length sent ≤ most_snapshots → length (vault_legs rules sent).idents ≤ suc most_snapshots
+few_vault : (rules : List Rule) (sent : List Snapshot) → length sent ≤ MOST_SNAPSHOTS → length (vault_legs rules sent).idents ≤ suc MOST_SNAPSHOTS
 few_vault rules sent h = let a = thinned_shorter (filter_thins (has_rule rules) sent) in let b = length_mapped_to (filter (has_rule rules) sent) in omega arith
 
-pub few_legs : (n : ℕ) (p : Policy) (base : Option Ident) (s : Source) (there : List Snapshot) → length s.snapshots ≤ most_snapshots → length (legs n p base s there).idents ≤ suc most_snapshots
+pub few_legs : (n : ℕ) (p : Policy) (base : Option Ident) (s : Source) (there : List Snapshot) → length s.snapshots ≤ MOST_SNAPSHOTS → length (legs n p base s there).idents ≤ suc MOST_SNAPSHOTS
 few_legs n p base s there h = go (is_mirror p.kind)
   where
-    sent : length (candidates base s.snapshots there) ≤ most_snapshots
+    sent : length (candidates base s.snapshots there) ≤ MOST_SNAPSHOTS
     sent = let a = few_candidates base s.snapshots there in omega arith
 
-    go : (m : Bool) → length (cond m (mirror_legs (sends_all p) s.kind (made_ident s.number n) (candidates base s.snapshots there)) (vault_legs p.rules (candidates base s.snapshots there))).idents ≤ suc most_snapshots
+    go : (m : Bool) → length (cond m (mirror_legs (sends_all p) s.kind (made_ident s.number n) (candidates base s.snapshots there)) (vault_legs p.rules (candidates base s.snapshots there))).idents ≤ suc MOST_SNAPSHOTS
     go true = few_mirror (sends_all p) s.kind (made_ident s.number n) (candidates base s.snapshots there) sent
     go false = few_vault p.rules (candidates base s.snapshots there) sent
 
@@ -162,7 +162,7 @@ last_of_legs n p base s there = go (is_mirror p.kind)
     go true = last_of_mirror (sends_all p) s.kind (made_ident s.number n) (candidates base s.snapshots there)
     go false = λ e. absurd (cc)
 
-pub formed_new_transfer : (q : Relationship) (n : ℕ) (kind : TransferKind) (p : Policy) (base : Option Ident) (s : Source) (there : List Snapshot) → s.number ≡ q.source → length s.snapshots ≤ most_snapshots →
+pub formed_new_transfer : (q : Relationship) (n : ℕ) (kind : TransferKind) (p : Policy) (base : Option Ident) (s : Source) (there : List Snapshot) → s.number ≡ q.source → length s.snapshots ≤ MOST_SNAPSHOTS →
     FormedTransfer q (new_transfer n kind (legs n p base s there))
 formed_new_transfer q n kind p base s there e h = record {
   unpruned = λ i. absurd (i refl);
@@ -186,6 +186,6 @@ formed_settled r t i later e n f = record {
   unpruned = f.unpruned;
   landed = λ m. refl;
   reserved = λ m. let (earlier, g) = f.reserved m in later_reserved i later (made_ident r.source t.number) n (earlier, sym e ∙ g);
-  few = let h : length t.legs ≤ suc most_snapshots = f.few in let k : length t.legs ≡ length (i ∷ later) = ap length e in omega arith;
+  few = let h : length t.legs ≤ suc MOST_SNAPSHOTS = f.few in let k : length t.legs ≡ length (i ∷ later) = ap length e in omega arith;
   checkpoint = omega arith;
 }

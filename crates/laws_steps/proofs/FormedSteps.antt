@@ -7,7 +7,7 @@ use Rattle.std.proofs.lemmas.Option.{same_Some}
 use Rattle.std.proofs.lemmas.List.{length-replicate}
 use Rattle.sm_base.specs.declared.numbers.Ident.{Ident}
 use Rattle.sm_base.specs.declared.refusal.Reason.{Reason}
-use Rattle.sm_defs.specs.Limits.{most_snapshots, window}
+use Rattle.sm_base.specs.declared.limits.TheConstants.{MOST_SNAPSHOTS, WINDOW}
 use Rattle.sm_defs.specs.Words.{Among}
 use Rattle.sm_defs.specs.Image.{Block, Image, hole, stands}
 use Rattle.sm_defs.specs.Missing.{Bases, mirror_cost, vault_cost, vault_landing, landed_from, rest}
@@ -112,9 +112,9 @@ module _ (w : Up) (k : ℕ) (x : Running) (s : SoundUp w) (r : IsRunning w k x) 
       let c = (s.crossed.transfers x.relation x.transfer (relation_stands w k x r) r.transfer).given in let d = s.formed.transfers_counted.1 in
       record { name = made_is_name x.relation.number x.transfer.number (omega (arith, a, b)) (omega (arith, c, d)); label = tt; time = let l = s.formed.clock in omega (arith, l) }
 
-  prepares : (length x.source.snapshots == most_snapshots) ≡ false → Formed (with_volume w x.relation.source (with_snapshot x.source (prepared_snapshot w x (reserved_leg x))))
+  prepares : (length x.source.snapshots == MOST_SNAPSHOTS) ≡ false → Formed (with_volume w x.relation.source (with_snapshot x.source (prepared_snapshot w x (reserved_leg x))))
   prepares e = formed_at w x.relation.source _ (ap (λ y. y.source.path) r.is) (ap (λ y. y.source.disk) r.is) s.formed
-      (formed_taken x.source (prepared_snapshot w x (reserved_leg x)) refl prepared_named (below_bound (length x.source.snapshots) most_snapshots source.few e) source)
+      (formed_taken x.source (prepared_snapshot w x (reserved_leg x)) refl prepared_named (below_bound (length x.source.snapshots) MOST_SNAPSHOTS source.few e) source)
 
 -- a reason that does not hold
 pub no_reason : (b : Bool) (reason : Reason) (o : Option Reason) → reason_if b reason o ≡ None → (b ≡ false) × (o ≡ None)
@@ -208,7 +208,7 @@ module _ (w : Up) (k : ℕ) (x : Running) (leg : Snapshot) (s : SoundUp w) (r : 
   -- a checkpoint is before the leg's last block
   checks : at_checkpoint x (cost x leg) ≡ true → landed_prefix x.transfer.landed < 2 ^ 32
   checks c =
-      let below = ltb-true (landed_prefix x.transfer.landed) (cost x leg) (and_parts (landed_prefix x.transfer.landed == x.transfer.checkpoint + window) _ c).1 in
+      let below = ltb-true (landed_prefix x.transfer.landed) (cost x leg) (and_parts (landed_prefix x.transfer.landed == x.transfer.checkpoint + WINDOW) _ c).1 in
       let most = cost_at_most x leg in let long = leg_long in let few = (destination w k x s r).few_blocks in omega (arith, below, most, long, few)
 
   lands_long : length (landing x leg) ≡ x.destination.logical
@@ -218,7 +218,7 @@ module _ (w : Up) (k : ℕ) (x : Running) (leg : Snapshot) (s : SoundUp w) (r : 
       go true = leg_long
       go false = landed_long leg.image (bases x).at_source (bases x).at_destination (free_tags x.destination) ∙ leg_long
 
-  publishes : all_landed x (cost x leg) ≡ true → nat_lt most_snapshots (length (list_published w x (arrived x leg))) ≡ false → FormedVolume (published w x leg)
+  publishes : all_landed x (cost x leg) ≡ true → nat_lt MOST_SNAPSHOTS (length (list_published w x (arrived x leg))) ≡ false → FormedVolume (published w x leg)
   publishes l n = let f = destination w k x s r in record {
     path = f.path;
     disk = f.disk;
@@ -230,7 +230,7 @@ module _ (w : Up) (k : ℕ) (x : Running) (leg : Snapshot) (s : SoundUp w) (r : 
     few_blocks = f.few_blocks;
     room = f.room;
     few_places = f.few_places;
-    few = ltb-false most_snapshots (length (list_published w x (arrived x leg))) n;
+    few = ltb-false MOST_SNAPSHOTS (length (list_published w x (arrived x leg))) n;
     counted = f.counted;
     snapshots = λ t m. named t (published_among w x leg t m);
   }

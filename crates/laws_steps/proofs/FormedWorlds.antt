@@ -4,7 +4,7 @@ use Rattle.std.specs.Prelude.{slice_get, slice_set}
 use Rattle.std.specs.List.{AllByRecursion, filter}
 use Rattle.std.proofs.lemmas.Option.{get_or_from_slice_get}
 use Rattle.std.proofs.lemmas.List.{length-set, length-append}
-use Rattle.sm_defs.specs.Limits.{most_volumes, most_policies, most_relations, last_number, last_relation, last_second}
+use Rattle.sm_base.specs.declared.limits.TheConstants.{MOST_VOLUMES, MOST_POLICIES, MOST_RELATIONS, LAST_NUMBER, LAST_RELATION, LAST_SECOND}
 use Rattle.sm_defs.specs.Words.{Among, KeysDiffer}
 use Rattle.sm_defs.specs.Thinned.{Thinned, end, kept, left_out}
 use Rattle.sm_defs.specs.Volume.{Volume, no_volume}
@@ -22,7 +22,7 @@ use Rattle.laws_steps.proofs.Tags.{differ_push, each_pushed}
 
 -- ---- volumes
 
-with_volumes : (w : Up) (vs : List Volume) → ((v : Volume) → Among vs v → FormedVolume v) → length vs ≤ most_volumes → KeysDiffer path_of vs → KeysDiffer disk_of vs → Formed w → Formed (record w { volumes = vs })
+with_volumes : (w : Up) (vs : List Volume) → ((v : Volume) → Among vs v → FormedVolume v) → length vs ≤ MOST_VOLUMES → KeysDiffer path_of vs → KeysDiffer disk_of vs → Formed w → Formed (record w { volumes = vs })
 with_volumes w vs each few paths disks h = record {
   volumes = each;
   few = few;
@@ -44,7 +44,7 @@ formed_at w i u path disk h k = with_volumes w (slice_set w.volumes i u) (each_s
     (differ_set path_of w.volumes i u (λ x e. path ∙ ap path_of (get_or_from_slice_get w.volumes i x no_volume e)) h.paths_differ)
     (differ_set disk_of w.volumes i u (λ x e. disk ∙ ap disk_of (get_or_from_slice_get w.volumes i x no_volume e)) h.disks_differ) h
 
-pub formed_push : (w : Up) (u : Volume) → length w.volumes < most_volumes → ((v : Volume) → Among w.volumes v → ¬ (v.path ≡ u.path)) → ((v : Volume) → Among w.volumes v → ¬ (v.disk ≡ u.disk)) →
+pub formed_push : (w : Up) (u : Volume) → length w.volumes < MOST_VOLUMES → ((v : Volume) → Among w.volumes v → ¬ (v.path ≡ u.path)) → ((v : Volume) → Among w.volumes v → ¬ (v.disk ≡ u.disk)) →
     Formed w → FormedVolume u → Formed (with_new_volume w u)
 formed_push w u l a b h k = with_volumes w (w.volumes ++ u ∷ []) (each_push FormedVolume w.volumes u h.volumes k) (rw (length-append w.volumes (u ∷ [])) (omega (arith, l)))
     (differ_push path_of w.volumes u h.paths_differ a) (differ_push disk_of w.volumes u h.disks_differ b) h
@@ -68,7 +68,7 @@ volumes_mapped w f path disk each h = with_volumes w (map f w.volumes) (each_map
 
 -- ---- policies
 
-with_policies : (w : Up) (ps : List Policy) → ((p : Policy) → Among ps p → FormedPolicy p) → length ps ≤ most_policies → KeysDiffer policy_name ps → Formed w → Formed (record w { policies = ps })
+with_policies : (w : Up) (ps : List Policy) → ((p : Policy) → Among ps p → FormedPolicy p) → length ps ≤ MOST_POLICIES → KeysDiffer policy_name ps → Formed w → Formed (record w { policies = ps })
 with_policies w ps each few names h = record {
   volumes = h.volumes;
   few = h.few;
@@ -85,7 +85,7 @@ with_policies w ps each few names h = record {
   clock = h.clock;
 }
 
-pub policy_pushed : (w : Up) (p : Policy) → length w.policies < most_policies → ((q : Policy) → Among w.policies q → ¬ (q.name ≡ p.name)) → Formed w → FormedPolicy p → Formed (with_new_policy w p)
+pub policy_pushed : (w : Up) (p : Policy) → length w.policies < MOST_POLICIES → ((q : Policy) → Among w.policies q → ¬ (q.name ≡ p.name)) → Formed w → FormedPolicy p → Formed (with_new_policy w p)
 policy_pushed w p l a h k = with_policies w (w.policies ++ p ∷ []) (each_push FormedPolicy w.policies p h.policies k) (rw (length-append w.policies (p ∷ [])) (omega (arith, l)))
     (differ_push policy_name w.policies p h.names_differ a) h
 
@@ -97,7 +97,7 @@ policy_at_place w i p name h k = with_policies w (slice_set w.policies i p) (λ 
     each q (inl e) = subst FormedPolicy (sym e) k
     each q (inr m) = h.policies q m
 
-pub at_later : (w : Up) (time : ℕ) → time ≤ last_second → Formed w → Formed (at_time w time)
+pub at_later : (w : Up) (time : ℕ) → time ≤ LAST_SECOND → Formed w → Formed (at_time w time)
 at_later w time l h = record {
   volumes = h.volumes;
   few = h.few;
@@ -120,7 +120,7 @@ at_later w time l h = record {
 abbrev pub FormedProgress : Relationship → Type 0
 FormedProgress r = (t : Transfer) → r.transfer ≡ Some t → FormedTransfer r t
 
-with_relations : (w : Up) (rs : List Relationship) → ((r : Relationship) → Among rs r → FormedRelation r) → length rs ≤ most_relations → NumbersAscend rs → Formed w → Formed (record w { relations = rs })
+with_relations : (w : Up) (rs : List Relationship) → ((r : Relationship) → Among rs r → FormedRelation r) → length rs ≤ MOST_RELATIONS → NumbersAscend rs → Formed w → Formed (record w { relations = rs })
 with_relations w rs each few ascending h = record {
   volumes = h.volumes;
   few = h.few;
@@ -137,7 +137,7 @@ with_relations w rs each few ascending h = record {
   clock = h.clock;
 }
 
-pub counted_on : (w : Up) (relations transfers : ℕ) → (1 ≤ relations) × (relations ≤ last_relation) → (1 ≤ transfers) × (transfers ≤ last_number) → Formed w →
+pub counted_on : (w : Up) (relations transfers : ℕ) → (1 ≤ relations) × (relations ≤ LAST_RELATION) → (1 ≤ transfers) × (transfers ≤ LAST_NUMBER) → Formed w →
     Formed (record w { next_relation = relations; next_transfer = transfers })
 counted_on w relations transfers r t h = record {
   volumes = h.volumes;
@@ -179,7 +179,7 @@ ascends_mapped : (f : Relationship → Relationship) (rs : List Relationship) �
 ascends_mapped f [] e h = tt
 ascends_mapped f (r ∷ rs) e h = (subst (λ n. AllByRecursion (λ p. n < p.number) (map f rs)) (sym (e r)) (mapped_each (λ p. r.number < p.number) f rs (λ p l. rw (e p) l) h.0), ascends_mapped f rs e h.1)
 
-pub relation_pushed : (w : Up) (q : Relationship) → length w.relations < most_relations → ((r : Relationship) → Among w.relations r → r.number < q.number) → Formed w → FormedRelation q →
+pub relation_pushed : (w : Up) (q : Relationship) → length w.relations < MOST_RELATIONS → ((r : Relationship) → Among w.relations r → r.number < q.number) → Formed w → FormedRelation q →
     Formed (record w { relations = w.relations ++ q ∷ [] })
 relation_pushed w q l a h k = with_relations w (w.relations ++ q ∷ []) (each_push FormedRelation w.relations q h.relations k) (rw (length-append w.relations (q ∷ [])) (omega (arith, l)))
     (ascends_push w.relations q h.ascending a) h

@@ -8,7 +8,7 @@ use Rattle.std.proofs.lemmas.List.{length-append}
 use Rattle.std.proofs.lemmas.List.Folds.{list_all-append}
 use Rattle.std.proofs.lemmas.Fmt.{decimal_by_steps, length-decimal-le}
 use Rattle.sm_base.specs.Name.{word_byte, is_snapshot_name}
-use Rattle.sm_defs.specs.Limits.{last_number, last_relation}
+use Rattle.sm_base.specs.declared.limits.TheConstants.{LAST_NUMBER, LAST_RELATION}
 use Rattle.sm_model.specs.Steps.{made_name}
 
 digit_byte : (n : ℕ) → n < 10 → word_byte (48 + n) ≡ true
@@ -24,7 +24,7 @@ decimal_passes : (n : ℕ) → n < 2 ^ 64 → list_all word_byte (decimal n) ≡
 decimal_passes n h = decimal_by_steps (λ n ds. list_all word_byte ds ≡ true) one_digit
     (λ n ds l ih. both_pass ds ((48 + n % 10) ∷ []) ih (one_digit (n % 10) (omega arith))) n h
 
-pub made_is_name : (relation transfer : ℕ) → relation ≤ last_relation → transfer ≤ last_number → is_snapshot_name (made_name relation transfer) ≡ true
+pub made_is_name : (relation transfer : ℕ) → relation ≤ LAST_RELATION → transfer ≤ LAST_NUMBER → is_snapshot_name (made_name relation transfer) ≡ true
 made_is_name relation transfer a b =
     let short : length (decimal relation) ≤ 10 = length-decimal-le 10 relation (omega arith) (omega (arith, a)) (omega (arith, a)) in
     let long : length (decimal transfer) ≤ 19 = length-decimal-le 19 transfer (omega arith) (omega (arith, b)) (omega (arith, b)) in

@@ -3,7 +3,7 @@ use Rattle.std.proofs.Common.{◌≡◌, ◌≢◌, ◌⊎◌, ◌<◌, ◌≤�
 use Rattle.std.proofs.lemmas.List.{length-set, length-append, length-replicate}
 use Rattle.sm_base.specs.Name.{is_path}
 use Rattle.sm_base.specs.declared.numbers.Kind.{Kind}
-use Rattle.sm_defs.specs.Limits.{most_snapshots, last_number}
+use Rattle.sm_base.specs.declared.limits.TheConstants.{MOST_SNAPSHOTS, LAST_NUMBER}
 use Rattle.sm_defs.specs.Words.{Among}
 use Rattle.sm_defs.specs.Thinned.{Thinned}
 use Rattle.sm_defs.specs.Image.{Block, Image, hole, full_block}
@@ -23,7 +23,7 @@ use Rattle.laws_steps.proofs.TagsStay.{new_stored}
 
 -- ---- images of a volume that was formed
 
-pub formed_fewer : (v u : Volume) → ImagesFrom v u → u.path ≡ v.path → u.disk ≡ v.disk → u.logical ≡ v.logical → u.physical ≡ v.physical → u.next ≡ v.next → length u.snapshots ≤ most_snapshots →
+pub formed_fewer : (v u : Volume) → ImagesFrom v u → u.path ≡ v.path → u.disk ≡ v.disk → u.logical ≡ v.logical → u.physical ≡ v.physical → u.next ≡ v.next → length u.snapshots ≤ MOST_SNAPSHOTS →
     ((s : Snapshot) → Among u.snapshots s → FormedSnapshot s) → FormedVolume v → FormedVolume u
 formed_fewer v u h path disk logical physical next few each f = record {
   path = ap is_path path ∙ f.path;
@@ -99,11 +99,11 @@ formed_written v block fill n small f = record {
 
 -- ---- a snapshot was taken
 
-pub formed_taken : (v : Volume) (s : Snapshot) → s.image ≡ v.active → FormedSnapshot s → length v.snapshots < most_snapshots → FormedVolume v → FormedVolume (with_snapshot v s)
+pub formed_taken : (v : Volume) (s : Snapshot) → s.image ≡ v.active → FormedSnapshot s → length v.snapshots < MOST_SNAPSHOTS → FormedVolume v → FormedVolume (with_snapshot v s)
 formed_taken v s e k l f = formed_fewer v (with_snapshot v s) (snapped_from v s e) refl refl refl refl refl (rw (length-append v.snapshots (s ∷ [])) (omega (arith, l)))
     (each_push FormedSnapshot v.snapshots s f.snapshots k) f
 
-pub formed_counted : (v : Volume) → v.next < last_number → FormedVolume v → FormedVolume (counted v)
+pub formed_counted : (v : Volume) → v.next < LAST_NUMBER → FormedVolume v → FormedVolume (counted v)
 formed_counted v n f = record {
   path = f.path;
   disk = f.disk;

@@ -2,7 +2,7 @@
 use Rattle.std.proofs.Common.{◌≡◌, ◌≢◌, ◌⊎◌, ◌<◌, ◌≤◌, ◌+◌, ℕ, zero, suc, ◌==◌, ◌&&◌, nat_lt, not, Bool, true, false, cond, List, [], ◌∷◌, length, refl, sym, subst, inl, inr, arith}
 use Rattle.std.specs.List.{list_all}
 use Rattle.std.proofs.lemmas.Bool.{and_from, and_cases, not_from_false, eqb-false, lt-ltb, both_ways, cases_eq, false_from_ne_true}
-use Rattle.sm_defs.specs.Limits.{window}
+use Rattle.sm_base.specs.declared.limits.TheConstants.{WINDOW}
 use Rattle.sm_defs.specs.Words.{Among}
 use Rattle.sm_defs.specs.Image.{stands}
 use Rattle.sm_defs.specs.Volume.{numbers}
@@ -130,9 +130,9 @@ not_at p far cost e l = go (and_cases (p == far) (nat_lt p cost) e)
     go (inr f) = absurd (both_ways (nat_lt p cost) f (lt-ltb p cost l))
 
 pub may_ship_first : (x : Running) (cost : ℕ) → InWindow x.transfer → all_landed x cost ≡ false → at_checkpoint x cost ≡ false →
-    (may_ship x cost (landed_prefix x.transfer.landed) ≡ true) × (landed_prefix x.transfer.landed < x.transfer.checkpoint + window)
+    (may_ship x cost (landed_prefix x.transfer.landed) ≡ true) × (landed_prefix x.transfer.landed < x.transfer.checkpoint + WINDOW)
 may_ship_first x cost i a c =
-    let landed : List ℕ = x.transfer.landed in let p : ℕ = landed_prefix landed in let far : ℕ = x.transfer.checkpoint + window in
+    let landed : List ℕ = x.transfer.landed in let p : ℕ = landed_prefix landed in let far : ℕ = x.transfer.checkpoint + WINDOW in
     let h : IsPrefix (length landed) 0 landed p = prefix_is (length landed) 0 landed in
     let fresh : stands p landed ≡ false = not_next landed i.ascends p h in
     let below : p < cost = prefix_below landed p cost h a in
@@ -150,4 +150,4 @@ may_ship_first x cost i a c =
 
 pub some_shippable : (x : Running) (cost : ℕ) → InWindow x.transfer → all_landed x cost ≡ false → at_checkpoint x cost ≡ false → (k : ℕ) × Among (shippable x cost) k
 some_shippable x cost i a c = let m = may_ship_first x cost i a c in
-    (landed_prefix x.transfer.landed, filter_among (may_ship x cost) (numbers 0 (x.transfer.checkpoint + window)) (landed_prefix x.transfer.landed) (to_numbers (x.transfer.checkpoint + window) 0 (landed_prefix x.transfer.landed) (omega arith) (let l = m.1 in omega arith)) m.0)
+    (landed_prefix x.transfer.landed, filter_among (may_ship x cost) (numbers 0 (x.transfer.checkpoint + WINDOW)) (landed_prefix x.transfer.landed) (to_numbers (x.transfer.checkpoint + WINDOW) 0 (landed_prefix x.transfer.landed) (omega arith) (let l = m.1 in omega arith)) m.0)

@@ -7,7 +7,7 @@ use Rattle.sm_base.specs.declared.refusal.What.TheVariants.{Transfers}
 use Rattle.sm_base.specs.declared.refusal.Refusal.{Refusal}
 use Rattle.sm_base.specs.declared.refusal.Refusal.TheVariants as refusals
 use Rattle.sm_model.specs.declared.reply.Reply.TheVariants as replies
-use Rattle.sm_defs.specs.Limits.{last_number}
+use Rattle.sm_base.specs.declared.limits.TheConstants.{LAST_NUMBER}
 use Rattle.sm_defs.specs.Volume.{Snapshot}
 use Rattle.sm_defs.specs.Relationship.{Relationship}
 use Rattle.sm_defs.specs.Legs.{Legs}
@@ -33,12 +33,12 @@ pub no_leg : (w : Up) (k : ℕ) (r : Relationship) (kind : TransferKind) (ls : L
 unfolding and_then whether◌then◌otherwise◌
 no_leg w k r kind ls e h n = ap (model.start_of w k r kind) (sym e) ∙ rw (h, n) refl
 
-pub no_number : (w : Up) (k : ℕ) (r : Relationship) (kind : TransferKind) (ls : Legs) → AreLegs w r ls → room w r ls → is_empty ls.idents ≡ false → (w.next_transfer == last_number) ≡ true →
+pub no_number : (w : Up) (k : ℕ) (r : Relationship) (kind : TransferKind) (ls : Legs) → AreLegs w r ls → room w r ls → is_empty ls.idents ≡ false → (w.next_transfer == LAST_NUMBER) ≡ true →
     model.start_it w k r kind ≡ Err (refusals.Full Transfers)
 unfolding and_then refused_if whether◌then◌otherwise◌
 no_number w k r kind ls e h n f = ap (model.start_of w k r kind) (sym e) ∙ rw (h, n, f) refl
 
-pub begun : (w : Up) (k : ℕ) (r : Relationship) (kind : TransferKind) (ls : Legs) → AreLegs w r ls → room w r ls → is_empty ls.idents ≡ false → (w.next_transfer == last_number) ≡ false →
+pub begun : (w : Up) (k : ℕ) (r : Relationship) (kind : TransferKind) (ls : Legs) → AreLegs w r ls → room w r ls → is_empty ls.idents ≡ false → (w.next_transfer == LAST_NUMBER) ≡ false →
     model.start_it w k r kind ≡ Ok (record { reply = told (replies.Started w.next_transfer (length ls.idents)); world = model.with_next_transfer w k (model.with_transfer r (model.new_transfer w.next_transfer kind ls)) })
 unfolding and_then refused_if whether◌then◌otherwise◌
 begun w k r kind ls e h n f = ap (model.start_of w k r kind) (sym e) ∙ rw (h, n, f) refl
@@ -56,12 +56,12 @@ pub no_room_again : (w : Up) (k : ℕ) (r : Relationship) (base : Ident) (left :
 unfolding and_then
 no_room_again w k r base left ls refusal e h = ap (model.resync_with w k r base left) (sym e) ∙ rw h refl
 
-pub no_number_again : (w : Up) (k : ℕ) (r : Relationship) (base : Ident) (left : List Snapshot) (ls : Legs) → AreNext w r base left ls → room_test w r left ls ≡ Ok tt → (w.next_transfer == last_number) ≡ true →
+pub no_number_again : (w : Up) (k : ℕ) (r : Relationship) (base : Ident) (left : List Snapshot) (ls : Legs) → AreNext w r base left ls → room_test w r left ls ≡ Ok tt → (w.next_transfer == LAST_NUMBER) ≡ true →
     model.resync_from w k r base left ≡ Err (refusals.Full Transfers)
 unfolding and_then refused_if
 no_number_again w k r base left ls e h f = ap (model.resync_with w k r base left) (sym e) ∙ rw (h, f) refl
 
-pub begun_again : (w : Up) (k : ℕ) (r : Relationship) (base : Ident) (left : List Snapshot) (ls : Legs) → AreNext w r base left ls → room_test w r left ls ≡ Ok tt → (w.next_transfer == last_number) ≡ false →
+pub begun_again : (w : Up) (k : ℕ) (r : Relationship) (base : Ident) (left : List Snapshot) (ls : Legs) → AreNext w r base left ls → room_test w r left ls ≡ Ok tt → (w.next_transfer == LAST_NUMBER) ≡ false →
     model.resync_from w k r base left ≡
     Ok (record { reply = told (replies.Resyncing w.next_transfer base (length ls.idents)); world = model.with_next_transfer w k (model.resynced r base (model.new_transfer w.next_transfer Resync ls)) })
 unfolding and_then refused_if

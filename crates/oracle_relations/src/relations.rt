@@ -4,7 +4,7 @@ ghost use Rattle.std.specs.List.{filter};
 ghost use Rattle.sm_defs.specs.Words.{found};
 ghost use Rattle.sm_defs.specs.Edges.{edges};
 ghost use Rattle.sm_defs.specs.Volume.{is_rw};
-ghost use Rattle.sm_defs.specs.Limits.{most_relations, last_relation};
+ghost use Rattle.sm_base.specs.declared.limits.TheConstants.{MOST_RELATIONS, LAST_RELATION};
 ghost use Rattle.sm_defs.specs.World.{volume_at, policy_at, relation_at, with_volume, with_relation, no_relation};
 ghost use Rattle.sm_model.specs.Answers.{goes_to};
 ghost use Rattle.sm_model.specs.OfRelations as model;
@@ -53,7 +53,7 @@ fn closes(world: &PlainWorld, source: u32, destination: u32) -> bool
 }
 
 fn has_all_relations(world: &PlainWorld) -> bool
-    ensures { result ≡ ((length world.now.relations == most_relations) || (world.now.next_relation == last_relation)) }
+    ensures { result ≡ ((length world.now.relations == MOST_RELATIONS) || (world.now.next_relation == LAST_RELATION)) }
 {
     world.relations.len() == 64 || world.next_relation == u32::MAX
 }

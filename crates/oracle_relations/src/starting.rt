@@ -1,6 +1,6 @@
 // What a new transfer sends, and how it begins.
 ghost use Rattle.std.specs.Prelude.{◌≡◌, ◌<◌, ◌≤◌, ◌==◌, length, IfOk, OnOk, OnErr};
-ghost use Rattle.sm_defs.specs.Limits.{last_number};
+ghost use Rattle.sm_base.specs.declared.limits.TheConstants.{LAST_NUMBER};
 ghost use Rattle.sm_defs.specs.Edges.{is_empty};
 ghost use Rattle.sm_defs.specs.Retention.{labels, keep_reached};
 ghost use Rattle.sm_defs.specs.World.{volume_at, policy_at, relation_at, with_relation};
@@ -172,7 +172,7 @@ pub(crate) fn next_number(world: &PlainWorld) -> u64
 
 /// Whether the numbers of transfers have run out.
 pub(crate) fn has_all_transfers(world: &PlainWorld) -> bool
-    ensures { result ≡ (world.now.next_transfer == last_number) }
+    ensures { result ≡ (world.now.next_transfer == LAST_NUMBER) }
 {
     world.next_transfer == 1 << 62
 }

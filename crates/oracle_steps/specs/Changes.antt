@@ -3,7 +3,7 @@ use Rattle.std.specs.Prelude.{◌≡◌, ℕ, List, [], ◌∷◌, nat_lt, Optio
 use Rattle.sm_base.specs.declared.numbers.Ident.{Ident}
 use Rattle.sm_base.specs.declared.refusal.Reason.{Reason}
 use Rattle.sm_base.specs.declared.refusal.Reason.TheVariants as reasons
-use Rattle.sm_defs.specs.Limits.{most_snapshots}
+use Rattle.sm_base.specs.declared.limits.TheConstants.{MOST_SNAPSHOTS}
 use Rattle.sm_defs.specs.Volume.{Snapshot}
 use Rattle.sm_defs.specs.Relationship.{Relationship, Transfer, is_mirror}
 use Rattle.sm_defs.specs.World.{Up, with_volume, with_relation}
@@ -46,4 +46,4 @@ family_reverted x = if is_mirror x.policy.kind then x.destination.family else fa
 
 -- a destination whose list would be this long
 abbrev pub reason_of_count : Running → ℕ → Option Reason
-reason_of_count x count = reason_if (nat_lt most_snapshots count) reasons.SnapFull (reason_if (has_other_family x) reasons.OtherLayout None)
+reason_of_count x count = reason_if (nat_lt MOST_SNAPSHOTS count) reasons.SnapFull (reason_if (has_other_family x) reasons.OtherLayout None)

@@ -4,7 +4,7 @@ ghost use Rattle.std.specs.List.{list_any, filter};
 ghost use Rattle.std.specs.Str.{bytes_eq};
 ghost use Rattle.sm_defs.specs.Words.{last_that, same_ident};
 ghost use Rattle.sm_defs.specs.Volume.{Snapshot, new_volume, used};
-ghost use Rattle.sm_defs.specs.Limits.{most_snapshots, last_number};
+ghost use Rattle.sm_base.specs.declared.limits.TheConstants.{MOST_SNAPSHOTS, LAST_NUMBER};
 ghost use Rattle.sm_defs.specs.World.{volume_at, with_volume};
 ghost use Rattle.sm_defs.specs.Needed.{holder};
 ghost use Rattle.sm_model.specs.OfVolumes as model;
@@ -232,7 +232,7 @@ fn is_name_taken(world: &PlainWorld, at: usize, name: &SnapName) -> bool
 
 fn has_all_snapshots(world: &PlainWorld, at: usize) -> bool
     requires { at < length world.now.volumes }
-    ensures { result ≡ ((length (volume_at world.now at).snapshots == most_snapshots) || ((volume_at world.now at).next == last_number)) }
+    ensures { result ≡ ((length (volume_at world.now at).snapshots == MOST_SNAPSHOTS) || ((volume_at world.now at).next == LAST_NUMBER)) }
 {
     let volume = volume(world, at);
     volume.snapshots.len() == 255 || volume.next == 1 << 62

@@ -3,6 +3,7 @@
 
 mod faults;
 mod gate;
+pub mod limits;
 mod names;
 mod numbers;
 mod refusal;

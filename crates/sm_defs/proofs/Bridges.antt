@@ -4,7 +4,7 @@ use Rattle.std.proofs.lemmas.Bool.{cases_eq}
 use Rattle.std.proofs.lemmas.Bool.Decides.{nat_tests}
 use Rattle.sm_base.specs.declared.numbers.Ident.{Ident}
 use Rattle.sm_defs.specs.Image.{stands}
-use Rattle.sm_defs.specs.Limits.{most_snapshots, last_number}
+use Rattle.sm_base.specs.declared.limits.TheConstants.{MOST_SNAPSHOTS, LAST_NUMBER}
 use Rattle.sm_defs.specs.Operations.{snapped, with_snapshot, counted, is_full, removed, IsLeastFree, least_free, first_of}
 use Rattle.sm_defs.specs.Volume.{Volume, Snapshot, numbers, tags_of, without}
 use Rattle.sm_defs.specs.Words.{same_ident, has_ident}
@@ -28,10 +28,10 @@ snapped_made v s t e =
     ap (λ b. with_next v s (cond b (suc v.next) v.next)) other
 
 -- a client's next snapshot
-pub full_client : (v : Volume) (i : Ident) → i.seq ≡ 2 * v.next → is_full v i ≡ ((length v.snapshots == most_snapshots) || (v.next == last_number))
+pub full_client : (v : Volume) (i : Ident) → i.seq ≡ 2 * v.next → is_full v i ≡ ((length v.snapshots == MOST_SNAPSHOTS) || (v.next == LAST_NUMBER))
 full_client v i e =
     let same : (i.seq == 2 * v.next) ≡ true = grind (arith, nat_tests) in
-    ap (λ b. (length v.snapshots == most_snapshots) || (b && (v.next == last_number))) same
+    ap (λ b. (length v.snapshots == MOST_SNAPSHOTS) || (b && (v.next == LAST_NUMBER))) same
 
 -- one snapshot is dropped
 same_back : (i j : Ident) → (same_ident j i || false) ≡ same_ident i j

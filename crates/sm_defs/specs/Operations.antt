@@ -5,7 +5,7 @@ use Rattle.std.specs.Str.{bytes_eq}
 use Rattle.sm_base.specs.declared.numbers.Ident.{Ident}
 use Rattle.sm_base.specs.declared.numbers.Kind.TheVariants.{Rw, Dp}
 use Rattle.sm_defs.specs.Image.{Block, Image, stands}
-use Rattle.sm_defs.specs.Limits.{most_snapshots, last_number}
+use Rattle.sm_base.specs.declared.limits.TheConstants.{MOST_SNAPSHOTS, LAST_NUMBER}
 use Rattle.sm_defs.specs.Volume.{Volume, Snapshot, is_rw, has, used, tags_of, free_tags, without}
 use Rattle.sm_defs.specs.Words.{has_ident}
 
@@ -78,7 +78,7 @@ has_name snapshots name = list_any (λ s. bytes_eq s.name name) snapshots
 
 -- no room for a snapshot, or no number for one of the clients
 abbrev pub is_full : Volume → Ident → Bool
-is_full v i = (length v.snapshots == most_snapshots) || ((i.seq == 2 * v.next) && (v.next == last_number))
+is_full v i = (length v.snapshots == MOST_SNAPSHOTS) || ((i.seq == 2 * v.next) && (v.next == LAST_NUMBER))
 
 -- the volume has a snapshot of each identity
 abbrev pub has_each : List Snapshot → List Ident → Bool
@@ -86,7 +86,7 @@ has_each snapshots idents = list_all (has snapshots) idents
 
 -- more snapshots than a volume may have
 abbrev pub are_too_many : List Snapshot → Bool
-are_too_many snapshots = nat_lt most_snapshots (length snapshots)
+are_too_many snapshots = nat_lt MOST_SNAPSHOTS (length snapshots)
 
 -- the least number that no image of the volume uses
 pub record IsLeastFree (v : Volume) (n : ℕ) : Type 0 where

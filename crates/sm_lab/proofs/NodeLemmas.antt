@@ -16,7 +16,7 @@ use Rattle.sm_model.specs.declared.event.Event.TheVariants as events
 use Rattle.sm_model.specs.declared.reply.Reply.{Reply}
 use Rattle.sm_model.specs.declared.reply.Reply.TheVariants as replies
 use Rattle.sm_defs.specs.Image.{Image, full_block}
-use Rattle.sm_defs.specs.Limits.{most_volumes, most_snapshots, last_number}
+use Rattle.sm_base.specs.declared.limits.TheConstants.{MOST_VOLUMES, MOST_SNAPSHOTS, LAST_NUMBER}
 use Rattle.sm_defs.specs.Words.{Found, found, next_place}
 use Rattle.sm_defs.specs.Volume as model
 use Rattle.sm_defs.specs.World.{Up, with_volume, volume_at}
@@ -179,7 +179,7 @@ pub snapped_at : (w : Up) (path name : List ℕ) (label : Option (List ℕ)) (at
 unfolding and_then
 snapped_at w path name label at reply u e h =
     let v = volume_at w at in
-    rw (named_some w path at e) (snap_by (not (model.is_rw v.kind)) (list_any (λ (s : model.Snapshot). bytes_eq s.name name) v.snapshots) ((length v.snapshots == most_snapshots) || (v.next == last_number)) w at name label reply u h)
+    rw (named_some w path at e) (snap_by (not (model.is_rw v.kind)) (list_any (λ (s : model.Snapshot). bytes_eq s.name name) v.snapshots) ((length v.snapshots == MOST_SNAPSHOTS) || (v.next == LAST_NUMBER)) w at name label reply u h)
 
 read_by : (o : Result Image Refusal) (a : Bool) (w : Up) (place : ℕ) (reply : Reply) →
     IsShown (and_then o (λ image. and_then (refused_if a refusals.BadBlock) (λ _. Ok (volumes.block_at image place).bytes))) reply →
@@ -219,7 +219,7 @@ create_by false false false false f (Some len) g disk need done = small_by (g le
 create_steps : (w : Up) (path : List ℕ) (disk : DiskNo) (kind : Kind) (logical physical : ℕ) → volumes.create_volume w path disk kind logical physical ≡
     and_then (create_test w path disk physical) (λ _. Ok (record { reply = told (replies.Created (volno (length w.volumes))); world = volumes.with_new_volume w (model.new_volume path disk.0 kind (length w.volumes) logical physical) }))
 create_steps w path disk kind logical physical =
-    create_by (list_any (λ (v : model.Volume). bytes_eq v.path path) w.volumes) (disk.0 == 0) (list_any (λ (v : model.Volume). v.disk == disk.0) w.volumes) (length w.volumes == most_volumes) true
+    create_by (list_any (λ (v : model.Volume). bytes_eq v.path path) w.volumes) (disk.0 == 0) (list_any (λ (v : model.Volume). v.disk == disk.0) w.volumes) (length w.volumes == MOST_VOLUMES) true
     (slice_get w.disks disk.0) (λ len. nat_lt len (volumes.length_needed physical)) disk (volumes.length_needed physical)
     (Ok (record { reply = told (replies.Created (volno (length w.volumes))); world = volumes.with_new_volume w (model.new_volume path disk.0 kind (length w.volumes) logical physical) }))
 

@@ -8,7 +8,7 @@ use Rattle.sm_base.specs.declared.refusal.Refusal.{Refusal}
 use Rattle.sm_base.specs.declared.refusal.Refusal.TheVariants as refusals
 use Rattle.sm_model.specs.declared.reply.Reply.{Reply}
 use Rattle.sm_model.specs.declared.reply.Reply.TheVariants as replies
-use Rattle.sm_defs.specs.Limits.{most_volumes, most_snapshots, last_number}
+use Rattle.sm_base.specs.declared.limits.TheConstants.{MOST_VOLUMES, MOST_SNAPSHOTS, LAST_NUMBER}
 use Rattle.sm_defs.specs.Volume as model
 use Rattle.sm_defs.specs.World.{Up, empty_world}
 use Rattle.sm_defs.specs.Image.{Image, full_block}
@@ -67,7 +67,7 @@ abbrev pub snap_test : model.Volume → List ℕ → Result (Unit {0}) Refusal
 snap_test v name = do
   refusals.ReadOnly when not (model.is_rw v.kind)
   refusals.NameTaken when list_any (λ s. bytes_eq s.name name) v.snapshots
-  refusals.SnapFull when (length v.snapshots == most_snapshots) || (v.next == last_number)
+  refusals.SnapFull when (length v.snapshots == MOST_SNAPSHOTS) || (v.next == LAST_NUMBER)
   Ok tt
 
 abbrev pub create_test : Up → List ℕ → DiskNo → ℕ → Result (Unit {0}) Refusal
@@ -76,7 +76,7 @@ create_test w path disk physical = do
   refusals.NoDisk disk when disk.0 == 0
   len ← some_or (refusals.NoDisk disk) (slice_get w.disks disk.0)
   refusals.DiskTaken when list_any (λ v. v.disk == disk.0) w.volumes
-  refusals.Full Volumes when length w.volumes == most_volumes
+  refusals.Full Volumes when length w.volumes == MOST_VOLUMES
   refusals.DiskSmall (length_needed physical) len when nat_lt len (length_needed physical)
   Ok tt
 

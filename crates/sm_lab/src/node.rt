@@ -8,7 +8,7 @@ ghost use Rattle.sm_model.specs.OfVolumes as volumes;
 ghost use Rattle.sm_model.specs.OfReport as reports;
 ghost use Rattle.sm_model.specs.declared.reply.Reply.TheVariants as replies;
 ghost use Rattle.sm_base.specs.declared.refusal.Refusal.TheVariants as refusals;
-ghost use Rattle.sm_defs.specs.Limits.{most_volumes};
+ghost use Rattle.sm_base.specs.declared.limits.TheConstants.{MOST_VOLUMES};
 ghost use Rattle.laws_run.specs.Early.{IsEarly};
 ghost use Rattle.sm_lab.specs.Node.{start, IsAnswered, Answers, IsWritten, IsSnapped, ChangesOne, create_test, write_test, snap_test, volume_of};
 
@@ -165,7 +165,7 @@ impl Node {
     }
 
     fn is_full(&self) -> bool
-        ensures full { result ≡ (length self.now.volumes == most_volumes) }
+        ensures full { result ≡ (length self.now.volumes == MOST_VOLUMES) }
         ensures room { result ≡ false → length self.now.volumes < 32 }
     {
         self.volumes.len() == 32

@@ -2,7 +2,7 @@ ghost use Rattle.std.specs.Prelude.{◌≡◌, false, ◌<◌, ◌≤◌, ◌+�
 ghost use Rattle.std.specs.List.{list_any, find};
 ghost use Rattle.std.specs.Option.{option_copied};
 ghost use Rattle.std.specs.Str.{bytes_eq};
-ghost use Rattle.sm_defs.specs.Limits.{most_snapshots, last_number};
+ghost use Rattle.sm_base.specs.declared.limits.TheConstants.{MOST_SNAPSHOTS, LAST_NUMBER};
 ghost use Rattle.sm_defs.specs.Image.{hole, full_block};
 ghost use Rattle.sm_defs.specs.Volume.{new_volume, used, is_rw};
 ghost use Rattle.sm_model.specs.OfReport.{digest, digest_line, snapshot_at, snapshot_line as line_of_snapshot, volume_line as line_of_volume};
@@ -147,7 +147,7 @@ fn is_taken(v: &Volume, name: &[u8]) -> bool
 
 /// Whether the volume has its full number of snapshots, or its numbers ran out.
 fn is_full(v: &Volume) -> bool
-    ensures full { result ≡ ((length (volume_of v.now).snapshots == most_snapshots) || (v.now.next == last_number)) }
+    ensures full { result ≡ ((length (volume_of v.now).snapshots == MOST_SNAPSHOTS) || (v.now.next == LAST_NUMBER)) }
     ensures room { result ≡ false → vec_len v.now.snapshots < 255 }
     ensures number { result ≡ false → v.now.next < 2 ^ 62 }
 {

@@ -1,7 +1,7 @@
 -- Which due step this program takes for an actor.
 use Rattle.std.specs.Prelude.{ℕ, suc, ◌+◌, ◌%◌, List, [], ◌∷◌, length, slice_get, Option, Some, None, cond}
 use Rattle.std.specs.List.{filter, find}
-use Rattle.sm_defs.specs.Limits.{window}
+use Rattle.sm_base.specs.declared.limits.TheConstants.{WINDOW}
 use Rattle.sm_defs.specs.Volume.{Snapshot, numbers}
 use Rattle.sm_defs.specs.Relationship.{Relationship, Transfer}
 use Rattle.sm_defs.specs.Words.{Found}
@@ -29,7 +29,7 @@ taken a (x ∷ xs) = slice_get (x ∷ xs) (a % length (x ∷ xs))
 
 -- the indexes that may be shipped, ascending
 abbrev pub shippable : Running → ℕ → List ℕ
-shippable x cost = filter (may_ship x cost) (numbers 0 (x.transfer.checkpoint + window))
+shippable x cost = filter (may_ship x cost) (numbers 0 (x.transfer.checkpoint + WINDOW))
 
 abbrev pub shipped : Up → ℕ → Running → Snapshot → Option ℕ → Option Effect
 shipped w k x leg None = None

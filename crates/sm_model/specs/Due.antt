@@ -5,7 +5,7 @@ use Rattle.sm_base.specs.declared.numbers.Ident.{Ident}
 use Rattle.sm_base.specs.declared.refusal.Reason.{Reason}
 use Rattle.sm_base.specs.declared.refusal.Reason.TheVariants as reasons
 use Rattle.sm_model.specs.declared.reply.Reply.TheVariants as replies
-use Rattle.sm_defs.specs.Limits.{most_snapshots}
+use Rattle.sm_base.specs.declared.limits.TheConstants.{MOST_SNAPSHOTS}
 use Rattle.sm_defs.specs.Volume.{Snapshot, is_rw, has, without, free}
 use Rattle.sm_defs.specs.Relationship.{Relationship, is_mirror, is_resync}
 use Rattle.sm_defs.specs.Legs.{made_ident}
@@ -122,7 +122,7 @@ settle_effect w k x i later = record { reply = replies.Settled (number_of x) i f
 abbrev pub prepare_reason : Running → Option Reason
 prepare_reason x =
     reason_if (not (is_rw x.source.kind)) reasons.SourceReadOnly
-    (reason_if (length x.source.snapshots == most_snapshots) reasons.SnapFull None)
+    (reason_if (length x.source.snapshots == MOST_SNAPSHOTS) reasons.SnapFull None)
 
 abbrev pub prepare_effect : Up → ℕ → Running → Ident → Effect
 prepare_effect w k x i = unless w k x (prepare_reason x) (record {
@@ -154,7 +154,7 @@ prune_effect w k x = let v = without (goes w x) x.destination in unless w k x (p
 -- Publish
 abbrev pub publish_reason : Up → Running → Snapshot → Option Reason
 publish_reason w x leg =
-    reason_if (nat_lt most_snapshots (length (list_published w x (arrived x leg)))) reasons.SnapFull
+    reason_if (nat_lt MOST_SNAPSHOTS (length (list_published w x (arrived x leg)))) reasons.SnapFull
     (reason_if (has_other_family x) reasons.OtherLayout None)
 
 abbrev pub publish_effect : Up → ℕ → Running → Snapshot → Effect

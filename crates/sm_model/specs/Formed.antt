@@ -4,7 +4,7 @@ use Rattle.std.specs.List.{AllByRecursion}
 use Rattle.sm_base.specs.Name.{is_part, is_path, is_label, is_snapshot_name}
 use Rattle.sm_base.specs.declared.numbers.Ident.{Ident}
 use Rattle.sm_base.specs.declared.numbers.PolicyKind.{PolicyKind}
-use Rattle.sm_defs.specs.Limits.{most_volumes, most_policies, most_relations, most_snapshots, most_rules, most_kept, most_logical, most_physical, last_number, last_relation, last_second}
+use Rattle.sm_base.specs.declared.limits.TheConstants.{MOST_VOLUMES, MOST_POLICIES, MOST_RELATIONS, MOST_SNAPSHOTS, MOST_RULES, MOST_KEPT, MOST_LOGICAL, MOST_PHYSICAL, LAST_NUMBER, LAST_RELATION, LAST_SECOND}
 use Rattle.sm_defs.specs.Words.{Among, KeysDiffer}
 use Rattle.sm_defs.specs.Image.{Block, Image, hole}
 use Rattle.sm_defs.specs.Volume.{Volume, Snapshot, images_of, numbers}
@@ -29,11 +29,11 @@ pub record FormedVolume (v : Volume) : Type 0 where
   pub bytes : (p : ℕ) (b : Block) → Stored v p b → (byte : ℕ) → Among b.bytes byte → byte ≤ 255
   pub holes : (p : ℕ) (b : Block) → Stored v p b → b.tag ≡ 0 → b ≡ hole
   pub some_blocks : 1 ≤ v.logical
-  pub few_blocks : v.logical ≤ most_logical
+  pub few_blocks : v.logical ≤ MOST_LOGICAL
   pub room : v.logical ≤ v.physical
-  pub few_places : v.physical ≤ most_physical
-  pub few : length v.snapshots ≤ most_snapshots
-  pub counted : (1 ≤ v.next) × (v.next ≤ last_number)
+  pub few_places : v.physical ≤ MOST_PHYSICAL
+  pub few : length v.snapshots ≤ MOST_SNAPSHOTS
+  pub counted : (1 ≤ v.next) × (v.next ≤ LAST_NUMBER)
   pub snapshots : (s : Snapshot) → Among v.snapshots s → FormedSnapshot s
 
 abbrev pub path_of : Volume → List ℕ
@@ -45,7 +45,7 @@ disk_of v = v.disk
 pub record FormedRule (r : Rule) : Type 0 where
   pub label : is_label r.label ≡ true
   pub some_kept : 1 ≤ r.keep
-  pub few_kept : r.keep ≤ most_kept
+  pub few_kept : r.keep ≤ MOST_KEPT
 
 -- its rules are as they come: a mirror's first is that for made snapshots, and each was added to those before it
 abbrev pub AreAdded : PolicyKind → List Rule → List Rule → Type 0
@@ -57,14 +57,14 @@ pub record FormedPolicy (p : Policy) : Type 0 where
   pub name : is_part p.name ≡ true
   pub added : (more : List Rule) × (p.rules ≡ first_rules p.kind ++ more) × AreAdded p.kind (first_rules p.kind) more
   pub rules : (r : Rule) → Among p.rules r → FormedRule r
-  pub few : length p.rules ≤ most_rules
+  pub few : length p.rules ≤ MOST_RULES
 
 -- an interrupted transfer has landed what its checkpoint says; a reserved leg is the last
 pub record FormedTransfer (r : Relationship) (t : Transfer) : Type 0 where
   pub unpruned : t.stopped ≢ None → t.pruned ≡ false
   pub landed : t.stopped ≢ None → t.landed ≡ numbers 0 t.checkpoint
   pub reserved : t.reserved ≡ true → (earlier : List Ident) × (t.legs ≡ earlier ++ made_ident r.source t.number ∷ [])
-  pub few : length t.legs ≤ suc most_snapshots
+  pub few : length t.legs ≤ suc MOST_SNAPSHOTS
   pub checkpoint : t.checkpoint < 2 ^ 32
 
 pub record FormedRelation (r : Relationship) : Type 0 where
@@ -81,15 +81,15 @@ NumbersAscend (r ∷ rs) = AllByRecursion (λ q. r.number < q.number) rs × Numb
 
 pub record Formed (w : Up) : Type 0 where
   pub volumes : EachVolume FormedVolume w
-  pub few : length w.volumes ≤ most_volumes
+  pub few : length w.volumes ≤ MOST_VOLUMES
   pub paths_differ : KeysDiffer path_of w.volumes
   pub disks_differ : KeysDiffer disk_of w.volumes
   pub policies : (p : Policy) → Among w.policies p → FormedPolicy p
-  pub few_policies : length w.policies ≤ most_policies
+  pub few_policies : length w.policies ≤ MOST_POLICIES
   pub names_differ : KeysDiffer policy_name w.policies
   pub relations : EachRelation FormedRelation w
-  pub few_relations : length w.relations ≤ most_relations
+  pub few_relations : length w.relations ≤ MOST_RELATIONS
   pub ascending : NumbersAscend w.relations
-  pub relations_counted : (1 ≤ w.next_relation) × (w.next_relation ≤ last_relation)
-  pub transfers_counted : (1 ≤ w.next_transfer) × (w.next_transfer ≤ last_number)
-  pub clock : w.clock ≤ last_second
+  pub relations_counted : (1 ≤ w.next_relation) × (w.next_relation ≤ LAST_RELATION)
+  pub transfers_counted : (1 ≤ w.next_transfer) × (w.next_transfer ≤ LAST_NUMBER)
+  pub clock : w.clock ≤ LAST_SECOND

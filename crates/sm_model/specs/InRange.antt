@@ -4,7 +4,7 @@ use Rattle.std.specs.List.{starts_with}
 use Rattle.sm_base.specs.Name.{is_part, is_path, is_label, is_snapshot_name}
 use Rattle.sm_model.specs.declared.event.Event.{Event}
 use Rattle.sm_model.specs.declared.event.Event.TheVariants as events
-use Rattle.sm_defs.specs.Limits.{most_logical, most_physical, last_second}
+use Rattle.sm_base.specs.declared.limits.TheConstants.{MOST_LOGICAL, MOST_PHYSICAL, LAST_SECOND}
 use Rattle.sm_defs.specs.Words.{Among}
 use Rattle.sm_defs.specs.Relationship.{Relationship}
 use Rattle.sm_defs.specs.World.{Up, volume_at}
@@ -31,9 +31,9 @@ pub record IsCreation (path : List ℕ) (disk logical physical : ℕ) : Type 0 w
   pub path_given : IsPath path
   pub disk_given : IsNumber disk
   pub some_blocks : 1 ≤ logical
-  pub few_blocks : logical ≤ most_logical
+  pub few_blocks : logical ≤ MOST_LOGICAL
   pub room : logical ≤ physical
-  pub few_places : physical ≤ most_physical
+  pub few_places : physical ≤ MOST_PHYSICAL
 
 pub record IsWrite (path : List ℕ) (block fill : ℕ) : Type 0 where
   pub path_given : IsPath path
@@ -91,7 +91,7 @@ IsGiven (events.Resync destination) = IsPath destination
 IsGiven (events.Delete destination) = IsPath destination
 IsGiven (events.Release source destination) = IsReleasing source destination
 IsGiven events.ShowRelations = Unit {0}
-IsGiven (events.Clock time) = time ≤ last_second
+IsGiven (events.Clock time) = time ≤ LAST_SECOND
 IsGiven (events.Cp path) = IsPath path
 IsGiven (events.Read path name block) = IsRead path name block
 IsGiven (events.Work shown) = Unit {0}

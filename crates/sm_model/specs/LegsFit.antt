@@ -4,7 +4,7 @@ use Rattle.std.specs.List.{AllByRecursion}
 use Rattle.sm_base.specs.declared.numbers.Ident.{Ident}
 use Rattle.sm_defs.specs.Words.{Among}
 use Rattle.sm_defs.specs.Image.{Block}
-use Rattle.sm_defs.specs.Limits.{window}
+use Rattle.sm_base.specs.declared.limits.TheConstants.{WINDOW}
 use Rattle.sm_defs.specs.Volume.{Snapshot, has, free}
 use Rattle.sm_defs.specs.Relationship.{Transfer, is_mirror}
 use Rattle.sm_defs.specs.World.{Up}
@@ -47,7 +47,7 @@ Ascends (k ∷ ks) = AllByRecursion (λ l. k < l) ks × Ascends ks
 pub record InWindow (t : Transfer) : Type 0 where
   pub ascends : Ascends t.landed
   pub below : (k : ℕ) → k < t.checkpoint → Among t.landed k
-  pub near : (k : ℕ) → Among t.landed k → k < t.checkpoint + window
+  pub near : (k : ℕ) → Among t.landed k → k < t.checkpoint + WINDOW
 
 pub record LegsFitFor (x : Running) : Type 0 where
   pub mirror : is_mirror x.policy.kind ≡ true → IsChecked x.transfer → FitsSource x

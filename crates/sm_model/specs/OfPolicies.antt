@@ -7,7 +7,7 @@ use Rattle.sm_base.specs.declared.numbers.PolicyKind.TheVariants.{AsyncMirror, V
 use Rattle.sm_base.specs.declared.refusal.What.TheVariants.{Policies}
 use Rattle.sm_base.specs.declared.refusal.Refusal.TheVariants as refusals
 use Rattle.sm_model.specs.declared.reply.Reply.TheVariants as replies
-use Rattle.sm_defs.specs.Limits.{most_policies, most_rules, most_kept}
+use Rattle.sm_base.specs.declared.limits.TheConstants.{MOST_POLICIES, MOST_RULES, MOST_KEPT}
 use Rattle.sm_defs.specs.Relationship.{Policy, Rule, rule_for}
 use Rattle.sm_defs.specs.World.{Up}
 use Rattle.sm_model.specs.Answers.{Answer, ◌>>=◌, ◌>>◌, ◌when◌, ◌and◌, policy_named}
@@ -26,7 +26,7 @@ with_new_policy w p = record w { policies = w.policies ++ p ∷ [] }
 abbrev pub create_policy : Up → List ℕ → PolicyKind → Answer
 create_policy w name kind = do
   refusals.NameTaken when list_any (λ p. bytes_eq p.name name) w.policies
-  refusals.Full Policies when length w.policies == most_policies
+  refusals.Full Policies when length w.policies == MOST_POLICIES
   replies.Done and with_new_policy w (new_policy name kind)
 
 -- a label of mirrors
@@ -40,7 +40,7 @@ is_wrong_rule Vault label preserve = is_mirror_label label
 
 abbrev pub is_bad_keep : PolicyKind → ℕ → Bool
 is_bad_keep AsyncMirror keep = not (keep == 1)
-is_bad_keep Vault keep = (keep == 0) || nat_lt most_kept keep
+is_bad_keep Vault keep = (keep == 0) || nat_lt MOST_KEPT keep
 
 abbrev pub with_rule : Policy → Rule → Policy
 with_rule p rule = record p { rules = p.rules ++ rule ∷ [] }
@@ -55,7 +55,7 @@ add_rule w name label keep preserve = do
   refusals.WrongRule when is_wrong_rule p.item.kind label preserve
   refusals.BadKeep when is_bad_keep p.item.kind keep
   refusals.RuleTaken when is_some (rule_for p.item.rules (Some label))
-  refusals.RulesFull when length p.item.rules == most_rules
+  refusals.RulesFull when length p.item.rules == MOST_RULES
   replies.Done and with_policy w p.at (with_rule p.item (record { label = label; keep = keep; preserve = preserve }))
 
 abbrev pub at_time : Up → ℕ → Up

@@ -5,7 +5,7 @@ use Rattle.sm_base.specs.declared.refusal.What.TheVariants.{Relations}
 use Rattle.sm_base.specs.declared.refusal.Refusal.{Refusal}
 use Rattle.sm_base.specs.declared.refusal.Refusal.TheVariants as refusals
 use Rattle.sm_model.specs.declared.reply.Reply.TheVariants as replies
-use Rattle.sm_defs.specs.Limits.{most_relations, last_relation}
+use Rattle.sm_base.specs.declared.limits.TheConstants.{MOST_RELATIONS, LAST_RELATION}
 use Rattle.sm_defs.specs.Words.{Found, found, or_else}
 use Rattle.sm_defs.specs.Volume.{Volume, is_rw}
 use Rattle.sm_defs.specs.Operations as operations
@@ -55,7 +55,7 @@ relate w source destination policy = do
   already (found (goes_to d.at) w.relations)
   refusals.SizeMismatch when sizes_differ p.item s.item d.item
   refusals.Cycle when closes (edges w) s.at d.at
-  refusals.Full Relations when (length w.relations == most_relations) || (w.next_relation == last_relation)
+  refusals.Full Relations when (length w.relations == MOST_RELATIONS) || (w.next_relation == LAST_RELATION)
   replies.Related (relno w.next_relation) and with_new_relation w s.at d.at p.at
 
 abbrev pub quiesced_as : Bool → Relationship → Relationship

@@ -9,7 +9,7 @@ use Rattle.sm_base.specs.declared.refusal.What.TheVariants.{Transfers}
 use Rattle.sm_base.specs.declared.refusal.Refusal.{Refusal}
 use Rattle.sm_base.specs.declared.refusal.Refusal.TheVariants as refusals
 use Rattle.sm_model.specs.declared.reply.Reply.TheVariants as replies
-use Rattle.sm_defs.specs.Limits.{last_number}
+use Rattle.sm_base.specs.declared.limits.TheConstants.{LAST_NUMBER}
 use Rattle.sm_defs.specs.Words.{same_ident, has_ident, after, up_to, or_else}
 use Rattle.sm_defs.specs.Image.{stands}
 use Rattle.sm_defs.specs.Volume.{Volume, Snapshot, is_rw, has, numbers}
@@ -75,7 +75,7 @@ abbrev pub start_of : Up → ℕ → Relationship → TransferKind → Legs → 
 start_of w k r kind ls = do
   room_for (policy_at w r.policy) (volume_at w r.destination).snapshots (of_idents ls.idents (volume_at w r.source).snapshots)
   whether is_empty ls.idents then replies.Nothing and w otherwise do
-    refusals.Full Transfers when w.next_transfer == last_number
+    refusals.Full Transfers when w.next_transfer == LAST_NUMBER
     replies.Started w.next_transfer (length ls.idents) and with_next_transfer w k (with_transfer r (new_transfer w.next_transfer kind ls))
 
 abbrev pub start_it : Up → ℕ → Relationship → TransferKind → Answer
@@ -197,7 +197,7 @@ resynced r c t = record r { base = Some c; source_half = true; quiesced = false;
 abbrev pub resync_with : Up → ℕ → Relationship → Ident → List Snapshot → Legs → Answer
 resync_with w k r c left ls = do
   room_for (policy_at w r.policy) left (of_idents ls.idents (volume_at w r.source).snapshots)
-  refusals.Full Transfers when w.next_transfer == last_number
+  refusals.Full Transfers when w.next_transfer == LAST_NUMBER
   replies.Resyncing w.next_transfer c (length ls.idents) and with_next_transfer w k (resynced r c (new_transfer w.next_transfer Resync ls))
 
 -- from the common snapshot, over what the Revert leaves

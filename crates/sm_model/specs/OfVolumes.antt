@@ -9,7 +9,7 @@ use Rattle.sm_base.specs.declared.refusal.What.TheVariants.{Volumes}
 use Rattle.sm_base.specs.declared.refusal.Refusal.{Refusal}
 use Rattle.sm_base.specs.declared.refusal.Refusal.TheVariants as refusals
 use Rattle.sm_model.specs.declared.reply.Reply.TheVariants as replies
-use Rattle.sm_defs.specs.Limits.{most_volumes, most_snapshots, last_number, before_blocks}
+use Rattle.sm_base.specs.declared.limits.TheConstants.{MOST_VOLUMES, MOST_SNAPSHOTS, LAST_NUMBER, BLOCKS_START}
 use Rattle.sm_defs.specs.Words.{last_that, same_ident}
 use Rattle.sm_defs.specs.Image.{Image, Block, hole, full_block}
 use Rattle.sm_defs.specs.Volume.{Volume, Snapshot, new_volume, without}
@@ -22,7 +22,7 @@ use Rattle.sm_model.specs.Answers.{Answer, ◌>>=◌, ◌>>◌, ◌when◌, ◌a
 
 -- how long a disk has to be, in bytes
 abbrev pub length_needed : ℕ → ℕ
-length_needed physical = before_blocks + 4096 * physical
+length_needed physical = BLOCKS_START + 4096 * physical
 
 abbrev pub with_new_volume : Up → Volume → Up
 with_new_volume w v = record w { volumes = w.volumes ++ v ∷ [] }
@@ -33,7 +33,7 @@ create_volume w path disk kind logical physical = do
   refusals.NoDisk disk when disk.0 == 0
   len ← some_or (refusals.NoDisk disk) (slice_get w.disks disk.0)
   refusals.DiskTaken when list_any (λ v. v.disk == disk.0) w.volumes
-  refusals.Full Volumes when length w.volumes == most_volumes
+  refusals.Full Volumes when length w.volumes == MOST_VOLUMES
   refusals.DiskSmall (length_needed physical) len when nat_lt len (length_needed physical)
   replies.Created (volno (length w.volumes)) and with_new_volume w (new_volume path disk.0 kind (length w.volumes) logical physical)
 
@@ -64,7 +64,7 @@ snap w path name label = do
   v ← volume_named w path
   refusals.ReadOnly when is_read_only v.item
   refusals.NameTaken when has_name v.item.snapshots name
-  refusals.SnapFull when (length v.item.snapshots == most_snapshots) || (v.item.next == last_number)
+  refusals.SnapFull when (length v.item.snapshots == MOST_SNAPSHOTS) || (v.item.next == LAST_NUMBER)
   replies.Snapped (client_ident v.at v.item) and with_volume w v.at (snapped v.at w.clock v.item name label)
 
 -- the newest of the name

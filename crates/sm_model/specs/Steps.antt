@@ -6,7 +6,7 @@ use Rattle.sm_base.specs.declared.numbers.RelNo.{RelNo}
 use Rattle.sm_base.specs.declared.refusal.Reason.{Reason}
 use Rattle.sm_model.specs.declared.reply.Reply.{Reply}
 use Rattle.sm_model.specs.declared.reply.Reply.TheVariants as replies
-use Rattle.sm_defs.specs.Limits.{window, first_made_family}
+use Rattle.sm_base.specs.declared.limits.TheConstants.{WINDOW, FIRST_MADE_FAMILY}
 use Rattle.sm_defs.specs.Words.{same_ident}
 use Rattle.sm_defs.specs.Image.{Image, stands}
 use Rattle.sm_defs.specs.Volume.{Volume, Snapshot, has, numbers, free_tags}
@@ -46,7 +46,7 @@ interrupts w k x reason = record { reply = replies.Interrupted (number_of x) rea
 
 -- the family that belongs to a transfer alone
 abbrev pub family_of_transfer : ℕ → ℕ
-family_of_transfer transfer = first_made_family + transfer
+family_of_transfer transfer = FIRST_MADE_FAMILY + transfer
 
 -- the destination is read-only again, as it was at the base
 abbrev pub reverted : Running → Snapshot → Volume
@@ -117,11 +117,11 @@ published w x leg = taken_over x.destination (landing x leg) (family_published w
 
 -- it is one of the leg's blocks, has not landed, and is not too far past the checkpoint
 abbrev pub may_ship : Running → ℕ → ℕ → Bool
-may_ship x cost k = not (stands k x.transfer.landed) && nat_lt k cost && nat_lt k (x.transfer.checkpoint + window)
+may_ship x cost k = not (stands k x.transfer.landed) && nat_lt k cost && nat_lt k (x.transfer.checkpoint + WINDOW)
 
 abbrev pub all_landed : Running → ℕ → Bool
 all_landed x cost = list_all (λ k. stands k x.transfer.landed) (numbers 0 cost)
 
 -- all that may be shipped has landed, and there is more
 abbrev pub at_checkpoint : Running → ℕ → Bool
-at_checkpoint x cost = (landed_prefix x.transfer.landed == x.transfer.checkpoint + window) && nat_lt (landed_prefix x.transfer.landed) cost
+at_checkpoint x cost = (landed_prefix x.transfer.landed == x.transfer.checkpoint + WINDOW) && nat_lt (landed_prefix x.transfer.landed) cost

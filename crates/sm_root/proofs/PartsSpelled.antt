@@ -6,7 +6,7 @@ use Rattle.std.proofs.lemmas.List.{append-nil}
 use Rattle.sm_base.specs.Name.{is_label, is_snapshot_name, word_byte}
 use Rattle.sm_base.specs.declared.numbers.Kind.{Kind}
 use Rattle.sm_base.specs.declared.numbers.Kind.TheVariants.{Rw, Dp}
-use Rattle.sm_defs.specs.Limits.{most_logical, most_physical, last_number}
+use Rattle.sm_base.specs.declared.limits.TheConstants.{MOST_LOGICAL, MOST_PHYSICAL, LAST_NUMBER}
 use Rattle.sm_fields.specs.Format.{bits8, bits32, bits64}
 use Rattle.sm_fields.specs.Grammar.{digits, with_length, Spells, IsSpelledBy}
 use Rattle.sm_root.specs.declared.parts.Sizes.{Sizes}
@@ -131,10 +131,10 @@ pub record FitsSizes (s : Sizes) : Type 0 where
   pub number : s.number.0 < 2 ^ 32
   pub family : s.family < 2 ^ 64
   pub some_blocks : 1 ≤ s.logical
-  pub few_blocks : s.logical ≤ most_logical
+  pub few_blocks : s.logical ≤ MOST_LOGICAL
   pub room : s.logical ≤ s.physical
-  pub few_places : s.physical ≤ most_physical
-  pub counted : (1 ≤ s.next) × (s.next ≤ last_number)
+  pub few_places : s.physical ≤ MOST_PHYSICAL
+  pub counted : (1 ≤ s.next) × (s.next ≤ LAST_NUMBER)
 
 sizes_only : (v : Sizes) (bytes : List ℕ) → Spells sizes v bytes → FitsSizes v × (bytes ≡ sizes_digits v)
 unfolding sizes sizes_digits
@@ -145,9 +145,9 @@ sizes_only v bytes s =
     let d = c.4 in
     let e = d.4 in
     let k = kind_spelled.only a.0 a.1 a.3 in
-    let logical = both_true (nat_le 1 c.0) (nat_le c.0 most_logical) c.3.1 in
-    let physical = both_true (nat_le c.0 d.0) (nat_le d.0 most_physical) d.3.1 in
-    let next = both_true (nat_le 1 e.0) (nat_le e.0 last_number) e.3.1 in
+    let logical = both_true (nat_le 1 c.0) (nat_le c.0 MOST_LOGICAL) c.3.1 in
+    let physical = both_true (nat_le c.0 d.0) (nat_le d.0 MOST_PHYSICAL) d.3.1 in
+    let next = both_true (nat_le 1 e.0) (nat_le e.0 LAST_NUMBER) e.3.1 in
     let tail : d.2 ≡ digits bits64 e.0 = e.5 ∙ rw (e.3.0.1, e.4.1) (append-nil (digits bits64 e.0)) in
     let whole : bytes ≡ digits bits32 s.0 ++ (digits bits8 (kind_number a.0) ++ (digits bits64 b.0 ++ (digits bits32 c.0 ++ (digits bits32 d.0 ++ digits bits64 e.0)))) =
     s.5 ∙ rw (s.3.1, a.5, k.1, b.5, b.3.1, c.5, c.3.0.1, d.5, d.3.0.1, tail) refl in
@@ -156,10 +156,10 @@ sizes_only v bytes s =
         number = s.3.0;
         family = b.3.0;
         some_blocks = leb_le 1 c.0 logical.0;
-        few_blocks = leb_le c.0 most_logical logical.1;
+        few_blocks = leb_le c.0 MOST_LOGICAL logical.1;
         room = leb_le c.0 d.0 physical.0;
-        few_places = leb_le d.0 most_physical physical.1;
-        counted = (leb_le 1 e.0 next.0, leb_le e.0 last_number next.1);
+        few_places = leb_le d.0 MOST_PHYSICAL physical.1;
+        counted = (leb_le 1 e.0 next.0, leb_le e.0 LAST_NUMBER next.1);
       },
       whole,
     )
@@ -170,9 +170,9 @@ and_true a b p q = rw (p, q) refl
 sizes_again : (v : Sizes) → FitsSizes v → Spells sizes v (sizes_digits v)
 unfolding sizes sizes_digits
 sizes_again v fits =
-    let logical = and_true (nat_le 1 v.logical) (nat_le v.logical most_logical) (le_leb 1 v.logical fits.some_blocks) (le_leb v.logical most_logical fits.few_blocks) in
-    let physical = and_true (nat_le v.logical v.physical) (nat_le v.physical most_physical) (le_leb v.logical v.physical fits.room) (le_leb v.physical most_physical fits.few_places) in
-    let next = and_true (nat_le 1 v.next) (nat_le v.next last_number) (le_leb 1 v.next fits.counted.0) (le_leb v.next last_number fits.counted.1) in
+    let logical = and_true (nat_le 1 v.logical) (nat_le v.logical MOST_LOGICAL) (le_leb 1 v.logical fits.some_blocks) (le_leb v.logical MOST_LOGICAL fits.few_blocks) in
+    let physical = and_true (nat_le v.logical v.physical) (nat_le v.physical MOST_PHYSICAL) (le_leb v.logical v.physical fits.room) (le_leb v.physical MOST_PHYSICAL fits.few_places) in
+    let next = and_true (nat_le 1 v.next) (nat_le v.next LAST_NUMBER) (le_leb 1 v.next fits.counted.0) (le_leb v.next LAST_NUMBER fits.counted.1) in
     let few_logical : v.logical < 2 ^ 32 = omega (arith, fits.few_blocks) in
     let few_physical : v.physical < 2 ^ 32 = omega (arith, fits.few_places) in
     let few_next : v.next < 2 ^ 64 = omega (arith, fits.counted.1) in (

@@ -3,7 +3,7 @@ use Rattle.std.proofs.Common.{◌≡◌, ℕ, zero, suc, ◌-◌, ◌^◌, ◌<�
 use Rattle.std.specs.Prelude.{not}
 use Rattle.std.specs.List.{flat_map}
 use Rattle.std.proofs.lemmas.List.{append-nil, map_push}
-use Rattle.sm_defs.specs.Limits.{most_snapshots}
+use Rattle.sm_base.specs.declared.limits.TheConstants.{MOST_SNAPSHOTS}
 use Rattle.sm_defs.specs.Words.{Among}
 use Rattle.sm_fields.specs.Format.{number, such_that, bits32, in_turn}
 use Rattle.sm_fields.specs.Grammar.{digits, limit, identity_digits, IsIdentity, Spells, IsSpelledBy, AllInTurn}
@@ -86,7 +86,7 @@ snapshot_spelled logical most stable before = record { only = snapshot_only logi
 pub record FitsBody (r : Root) : Type 0 where
   pub sizes : FitsSizes (sizes_of r)
   pub stable : MapFits r.logical r.physical [] r.stable
-  pub few : length r.snapshots ≤ most_snapshots
+  pub few : length r.snapshots ≤ MOST_SNAPSHOTS
   pub snapshots : AllInTurn (FitsSnapshot r.logical r.physical r.stable) [] r.snapshots
 
 body_only : (r : Root) (bytes : List ℕ) → Spells body r bytes → FitsBody r × (bytes ≡ body_bytes r)
@@ -97,7 +97,7 @@ body_only r bytes s =
     let c = b.4 in
     let v = sizes_spelled.only s.0 s.1 s.3 in
     let m = map_only s.0.logical s.0.physical [] a.0 a.1 a.3 in
-    let n = (count_spelled most_snapshots (lit< tt)).only b.0 b.1 b.3 in
+    let n = (count_spelled MOST_SNAPSHOTS (lit< tt)).only b.0 b.1 b.3 in
     let t = in_turn_only (snapshot s.0.logical s.0.physical a.0) (FitsSnapshot s.0.logical s.0.physical a.0) snapshot_bytes (snapshot_spelled s.0.logical s.0.physical a.0) [] b.0 c.0 c.1 c.3 in
     let tail : b.2 ≡ flat_map snapshot_bytes c.0 = c.5 ∙ rw (t.2, c.4.1) (append-nil (flat_map snapshot_bytes c.0)) in
     let whole : bytes ≡ sizes_digits s.0 ++ (map_bytes a.0 ++ (digits bits32 (length c.0) ++ flat_map snapshot_bytes c.0)) = s.5 ∙ rw (v.1, a.5, m.1, b.5, n.1, tail, t.0) refl in
@@ -120,7 +120,7 @@ body_again r fits =
           length r.snapshots,
           digits bits32 (length r.snapshots),
           flat_map snapshot_bytes r.snapshots,
-          (count_spelled most_snapshots (lit< tt)).spelled (length r.snapshots) fits.few,
+          (count_spelled MOST_SNAPSHOTS (lit< tt)).spelled (length r.snapshots) fits.few,
           (r.snapshots, flat_map snapshot_bytes r.snapshots, [], list, (refl, refl), sym (append-nil (flat_map snapshot_bytes r.snapshots))),
           refl,
         ),

@@ -3,7 +3,7 @@ use Rattle.std.proofs.Common.{◌≡◌, ℕ, zero, suc, ◌+◌, ◌-◌, ◌<�
 use Rattle.std.specs.Prelude.{◌||◌, nat_le, nat_lt, slice_set, replicate, Option, Some, None}
 use Rattle.std.proofs.lemmas.Bool.{cases_eq, cases_lt}
 use Rattle.std.proofs.lemmas.List.{get_or-set_same, get_or-set_other, get_or-replicate, length-set, length-replicate}
-use Rattle.sm_defs.specs.Limits.{most_snapshots}
+use Rattle.sm_base.specs.declared.limits.TheConstants.{MOST_SNAPSHOTS}
 use Rattle.sm_fields.specs.Format.{number, such_that, bits32, count, in_turn, empty, head}
 use Rattle.sm_fields.proofs.Alike.{Alike, alike_same, alike_such_that, alike_then, alike_in_turn}
 use Rattle.sm_root.specs.declared.root.RootSnapshot.{RootSnapshot}
@@ -103,6 +103,6 @@ record_alike total =
     let stands = stands_at_first s.physical in
     alike_then (map_by_table (replicate (s.physical + 1) 0) s.logical) (block_map s.logical s.physical []) _ _ (map_alike s.physical s.logical (replicate (s.physical + 1) 0) [] stands) (λ stable.
     let after = stands_after_map s.physical (replicate (s.physical + 1) 0) [] stands 0 stable in
-    alike_then (count most_snapshots) (count most_snapshots) _ _ (alike_same (count most_snapshots)) (λ n.
+    alike_then (count MOST_SNAPSHOTS) (count MOST_SNAPSHOTS) _ _ (alike_same (count MOST_SNAPSHOTS)) (λ n.
     alike_then (snapshots_by_table (after_map (replicate (s.physical + 1) 0) 0 stable) s.logical n) (in_turn (snapshot s.logical s.physical stable) [] n) _ _ (snapshots_alike s.physical s.logical (after_map (replicate (s.physical + 1) 0) 0 stable) stable after n) (λ ss.
     alike_same (empty (root_made s stable ss)))))))

@@ -1,7 +1,7 @@
 -- The same layout, where a table has the place of each number that stood so far: 0 for none, and one more than the place.
 use Rattle.std.specs.Prelude.{ℕ, suc, ◌+◌, ◌-◌, ◌==◌, ◌&&◌, ◌||◌, nat_lt, Bool, if◌then◌else◌, List, [], ◌∷◌, length, map, slice_index, slice_set, replicate}
 use Rattle.sm_base.specs.declared.numbers.Ident.{Ident}
-use Rattle.sm_defs.specs.Limits.{most_snapshots}
+use Rattle.sm_base.specs.declared.limits.TheConstants.{MOST_SNAPSHOTS}
 use Rattle.sm_fields.specs.Format.{Format, ◌>>=◌, empty, bits32, count, in_turn, numbers, head}
 use Rattle.sm_root.specs.declared.root.Root.{Root}
 use Rattle.sm_root.specs.declared.root.RootSnapshot.{RootSnapshot}
@@ -46,7 +46,7 @@ snapshots_by_table table logical n = in_turn (snapshot_by_table table logical) [
 unfoldable pub images_by_table : List ℕ → Sizes → Format Root
 images_by_table table s = do
   stable ← map_by_table table s.logical
-  n ← count most_snapshots
+  n ← count MOST_SNAPSHOTS
   snapshots ← snapshots_by_table (after_map table 0 stable) s.logical n
   empty (root_made s stable snapshots)
 

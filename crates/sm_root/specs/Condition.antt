@@ -2,7 +2,7 @@
 use Rattle.std.specs.Prelude.{◌≡◌, ◌≢◌, ℕ, ◌^◌, ◌<◌, ◌≤◌, true, List, ◌∷◌, length, map, slice_index, Option, None, Some}
 use Rattle.sm_base.specs.Name.{is_label, is_snapshot_name}
 use Rattle.sm_base.specs.declared.numbers.Ident.{Ident}
-use Rattle.sm_defs.specs.Limits.{most_snapshots, most_logical, most_physical, last_number}
+use Rattle.sm_base.specs.declared.limits.TheConstants.{MOST_SNAPSHOTS, MOST_LOGICAL, MOST_PHYSICAL, LAST_NUMBER}
 use Rattle.sm_defs.specs.Words.{Among, KeysDiffer}
 use Rattle.sm_fields.specs.Grammar.{IsIdentity}
 use Rattle.sm_root.specs.declared.root.Root.{Root}
@@ -49,12 +49,12 @@ pub record IsRoot (r : Root) : Type 0 where
   pub number : r.number.0 < 2 ^ 32
   pub family : r.family < 2 ^ 64
   pub some_blocks : 1 ≤ r.logical
-  pub few_blocks : r.logical ≤ most_logical
+  pub few_blocks : r.logical ≤ MOST_LOGICAL
   pub room : r.logical ≤ r.physical
-  pub few_places : r.physical ≤ most_physical
-  pub counted : (1 ≤ r.next) × (r.next ≤ last_number)
+  pub few_places : r.physical ≤ MOST_PHYSICAL
+  pub counted : (1 ≤ r.next) × (r.next ≤ LAST_NUMBER)
   pub long : length r.stable ≡ r.logical
-  pub few : length r.snapshots ≤ most_snapshots
+  pub few : length r.snapshots ≤ MOST_SNAPSHOTS
   pub snapshots : (s : RootSnapshot) → Among r.snapshots s → IsSnapshot r.logical s
   pub at_most : AllAtMost (maps_of r) r.physical
   pub one_place : OnePlace (maps_of r)

@@ -5,7 +5,7 @@ use Rattle.sm_base.specs.Name.{is_label, is_snapshot_name}
 use Rattle.sm_base.specs.declared.numbers.Ident.{Ident}
 use Rattle.sm_base.specs.declared.numbers.Kind.{Kind}
 use Rattle.sm_base.specs.declared.numbers.Kind.TheVariants.{Rw, Dp}
-use Rattle.sm_defs.specs.Limits.{most_snapshots, most_logical, most_physical, last_number}
+use Rattle.sm_base.specs.declared.limits.TheConstants.{MOST_SNAPSHOTS, MOST_LOGICAL, MOST_PHYSICAL, LAST_NUMBER}
 use Rattle.sm_defs.specs.Words.{same_ident}
 use Rattle.sm_fields.specs.Format.{Format, ◌>>=◌, empty, number, text, such_that, bits8, bits32, bits64, count, identity, in_turn, numbers, head}
 use Rattle.sm_root.specs.declared.root.Root.{Root}
@@ -46,9 +46,9 @@ sizes = do
   n ← number bits32
   k ← kind
   f ← number bits64
-  logical ← such_that (number bits32) (λ b. nat_le 1 b && nat_le b most_logical)
-  physical ← such_that (number bits32) (λ b. nat_le logical b && nat_le b most_physical)
-  next ← such_that (number bits64) (λ c. nat_le 1 c && nat_le c last_number)
+  logical ← such_that (number bits32) (λ b. nat_le 1 b && nat_le b MOST_LOGICAL)
+  physical ← such_that (number bits32) (λ b. nat_le logical b && nat_le b MOST_PHYSICAL)
+  next ← such_that (number bits64) (λ c. nat_le 1 c && nat_le c LAST_NUMBER)
   empty (record { number = record { 0 = n }; kind = k; family = f; logical = logical; physical = physical; next = next })
 
 -- the words of a snapshot
@@ -81,7 +81,7 @@ unfoldable pub body : Format Root
 body = do
   s ← sizes
   stable ← block_map s.logical s.physical []
-  n ← count most_snapshots
+  n ← count MOST_SNAPSHOTS
   snapshots ← in_turn (snapshot s.logical s.physical stable) [] n
   empty (root_made s stable snapshots)
 

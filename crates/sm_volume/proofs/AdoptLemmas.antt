@@ -2,7 +2,7 @@
 use Rattle.std.proofs.Common.{◌≡◌, inr, ⊎_elim, ℕ, ◌<◌, ◌≤◌, nat_lt, not, cond, List, [], ◌∷◌, ◌++◌, map, slice_index, length, sym, ap, ◌∙◌, subst, Some, None}
 use Rattle.sm_base.specs.declared.numbers.Ident.{Ident}
 use Rattle.sm_defs.specs.Image.{tags}
-use Rattle.sm_defs.specs.Limits.{most_snapshots}
+use Rattle.sm_base.specs.declared.limits.TheConstants.{MOST_SNAPSHOTS}
 use Rattle.sm_defs.specs.Volume.{Snapshot, Volume}
 use Rattle.sm_defs.specs.Words.{Among, has_ident}
 use Rattle.sm_disk.specs.Image as disk
@@ -67,7 +67,7 @@ with_new_seen c drops ss t = ap (staying drops) (sym (map-append (seen_snapshot 
 pub adopt_refused : (c : disk.Image) (m : Maps) (h : Head) (ms : List ℕ) (drops : List Ident) → adopt_refusal (volume_of [] 0 c m) (snapshot_of h (image_of c ms)) drops ≡ store_refusals.adopt_refusal m (store_snapshot.snapshot_of h ms) drops
 adopt_refused c m h ms drops =
     let t = store_snapshot.snapshot_of h ms in
-    ap (λ (n : ℕ). cond (nat_lt most_snapshots n) (Some SnapFull) None) (ap length (with_new_seen c drops m.root.snapshots t) ∙ length_seen c (store.staying drops (m.root.snapshots ++ t ∷ [])))
+    ap (λ (n : ℕ). cond (nat_lt MOST_SNAPSHOTS n) (Some SnapFull) None) (ap length (with_new_seen c drops m.root.snapshots t) ∙ length_seen c (store.staying drops (m.root.snapshots ++ t ∷ [])))
 
 pub adopted_seen : (c : disk.Image) (m : Maps) (h : Head) (ms : List ℕ) (family : ℕ) (drops : List Ident) →
     volume_of [] 0 c (store.adopted m (store_snapshot.snapshot_of h ms) family drops) ≡ adopted (volume_of [] 0 c m) (snapshot_of h (image_of c ms)) family drops

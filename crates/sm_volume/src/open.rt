@@ -1,6 +1,6 @@
 // A volume is made on a disk, or found there.
 ghost use Rattle.std.specs.Prelude.{◌≡◌, ◌≤◌, true, [], None, IfOk, IfErr, MatchResult, IsTrue};
-ghost use Rattle.sm_defs.specs.Limits.{most_logical, most_physical};
+ghost use Rattle.sm_base.specs.declared.limits.TheConstants.{MOST_LOGICAL, MOST_PHYSICAL};
 ghost use Rattle.sm_defs.specs.Volume.{new_volume};
 ghost use Rattle.sm_disk.specs.Disk.{GoesOn, IsCounted, IsSynced};
 ghost use Rattle.volume_store.specs.Opened.{need, IsCreateFault, IsOpenFault};
@@ -30,9 +30,9 @@ impl<D: Disk> Volume<D> {
         physical: u32,
     ) -> Result<Volume<D>, (D, VolumeFault)>
         requires some { 1 ≤ logical }
-        requires few { logical ≤ most_logical }
+        requires few { logical ≤ MOST_LOGICAL }
         requires room { logical ≤ physical }
-        requires places { physical ≤ most_physical }
+        requires places { physical ≤ MOST_PHYSICAL }
 
         ensures ok { IfOk result (λ v. v ≡ record { disk = v.disk; number = number; selected = 0; volume = new_volume [] 0 kind number.0 logical physical; after = None; up = true }) }
         ensures large { IfOk result (λ v. need physical ≤ (D.state disk).size) }

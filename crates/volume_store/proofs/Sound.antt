@@ -6,7 +6,7 @@ use Rattle.std.proofs.lemmas.List.Elements.{filter-append}
 use Rattle.std.specs.List.{filter, AllByRecursion}
 use Rattle.sm_base.specs.declared.numbers.Ident.{Ident}
 use Rattle.sm_base.specs.declared.numbers.Kind.{Kind}
-use Rattle.sm_defs.specs.Limits.{most_snapshots, last_number}
+use Rattle.sm_base.specs.declared.limits.TheConstants.{MOST_SNAPSHOTS, LAST_NUMBER}
 use Rattle.sm_defs.specs.Words.{Among, KeysDiffer, has_ident}
 use Rattle.sm_root.specs.declared.root.Root.{Root}
 use Rattle.sm_root.specs.declared.root.RootSnapshot.{RootSnapshot}
@@ -71,7 +71,7 @@ maps_among logical physical old new are from = record {
 
 -- a root of the same volume
 module _ (r : Root) (good : IsRoot r) (r' : Root) (number : r'.number ≡ r.number) (logical : r'.logical ≡ r.logical) (physical : r'.physical ≡ r.physical)
-    (family : r'.family < 2 ^ 64) (counted : (1 ≤ r'.next) × (r'.next ≤ last_number)) (few : length r'.snapshots ≤ most_snapshots)
+    (family : r'.family < 2 ^ 64) (counted : (1 ≤ r'.next) × (r'.next ≤ LAST_NUMBER)) (few : length r'.snapshots ≤ MOST_SNAPSHOTS)
     (each : (s : RootSnapshot) → Among r'.snapshots s → IsSnapshot r.logical s) (differ : KeysDiffer ident_of r'.snapshots)
     (maps : AreMapsOf r.logical r.physical (maps_of r')) where
   pub remade : IsRoot r'
@@ -128,7 +128,7 @@ module _ (m : Maps) (good : IsRoot m.root) (maps : AreMapsOf m.root.logical m.ro
 
   -- a consistency point with a snapshot of the active map
   module _ (s : RootSnapshot) (of_active : s.map ≡ m.active) (is_one : IsSnapshot m.root.logical s) (new : (t : RootSnapshot) → Among m.root.snapshots t → ¬ (t.ident ≡ s.ident))
-      (room : length m.root.snapshots < most_snapshots) (counted : (1 ≤ next_after m.root s.ident) × (next_after m.root s.ident ≤ last_number)) where
+      (room : length m.root.snapshots < MOST_SNAPSHOTS) (counted : (1 ≤ next_after m.root s.ident) × (next_after m.root s.ident ≤ LAST_NUMBER)) where
     pub maps_snapped : AreMapsOf m.root.logical m.root.physical (all_maps (snapped m s).root m.active)
     maps_snapped = maps_among m.root.logical m.root.physical (all_maps m.root m.active) (all_maps (snapped m s).root m.active) maps
         (λ x is. ⊎_elim (λ a. inl a) (λ b. ⊎_elim (λ a. inl a) (λ k.
@@ -147,7 +147,7 @@ module _ (m : Maps) (good : IsRoot m.root) (maps : AreMapsOf m.root.logical m.ro
 
   -- another map with a snapshot of it
   module _ (s : RootSnapshot) (family : ℕ) (drops : List Ident) (is_one : IsSnapshot m.root.logical s) (new : (t : RootSnapshot) → Among m.root.snapshots t → ¬ (t.ident ≡ s.ident))
-      (small : family < 2 ^ 64) (room : length (staying drops (m.root.snapshots ++ s ∷ [])) ≤ most_snapshots)
+      (small : family < 2 ^ 64) (room : length (staying drops (m.root.snapshots ++ s ∷ [])) ≤ MOST_SNAPSHOTS)
       (with_map : AreMapsOf m.root.logical m.root.physical (s.map ∷ map map_of (staying drops m.root.snapshots))) where
     adopt_stays : RootSnapshot → Bool
     adopt_stays t = not (has_ident drops t.ident)
@@ -203,7 +203,7 @@ remake_same r r' k k' f f' n n' s s' l l' a b c d e g =
     ap (λ (x : Root). remake x k f n s l) a ∙ ap (λ (x : Kind). remake r' x f n s l) b ∙ ap (λ (x : ℕ). remake r' k' x n s l) c
     ∙ ap (λ (x : ℕ). remake r' k' f' x s l) d ∙ ap (λ (x : List ℕ). remake r' k' f' n' x l) e ∙ ap (λ (x : List RootSnapshot). remake r' k' f' n' s' x) g
 
-pub next_counted : (m : Maps) → IsRoot m.root → (i : Ident) → next_after m.root i ≤ last_number → (1 ≤ next_after m.root i) × (next_after m.root i ≤ last_number)
+pub next_counted : (m : Maps) → IsRoot m.root → (i : Ident) → next_after m.root i ≤ LAST_NUMBER → (1 ≤ next_after m.root i) × (next_after m.root i ≤ LAST_NUMBER)
 next_counted m good i le = (
   elim (cases_Bool (eqb i.seq (2 * m.root.next))) [
     | inl yes_is ↦ subst (λ b. 1 ≤ cond b (suc m.root.next) m.root.next) (sym yes_is) (omega arith)

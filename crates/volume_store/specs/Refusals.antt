@@ -4,7 +4,7 @@ use Rattle.std.specs.List.{list_any, list_all, flat_map}
 use Rattle.std.specs.Str.{bytes_eq}
 use Rattle.sm_base.specs.declared.numbers.Ident.{Ident}
 use Rattle.sm_defs.specs.Image.{distinct}
-use Rattle.sm_defs.specs.Limits.{most_snapshots, last_number}
+use Rattle.sm_base.specs.declared.limits.TheConstants.{MOST_SNAPSHOTS, LAST_NUMBER}
 use Rattle.sm_defs.specs.Volume.{is_rw}
 use Rattle.sm_defs.specs.Words.{same_ident}
 use Rattle.sm_root.specs.declared.root.Root.{Root}
@@ -41,7 +41,7 @@ abbrev pub cp_refusal : Maps → Option VolumeFault
 cp_refusal m = refused_to_clients m None
 
 abbrev pub is_full : Root → Ident → Bool
-is_full r i = (length r.snapshots == most_snapshots) || ((i.seq == 2 * r.next) && (r.next == last_number))
+is_full r i = (length r.snapshots == MOST_SNAPSHOTS) || ((i.seq == 2 * r.next) && (r.next == LAST_NUMBER))
 
 abbrev pub snapshot_refusal : Maps → Ident → List ℕ → Option VolumeFault
 snapshot_refusal m i name = refused_to_clients m (
@@ -52,7 +52,7 @@ abbrev pub remove_refusal : Maps → List Ident → Option VolumeFault
 remove_refusal m drops = if list_all (has_snapshot m.root.snapshots) drops then None else Some NoSnapshot
 
 abbrev pub adopt_refusal : Maps → RootSnapshot → List Ident → Option VolumeFault
-adopt_refusal m s drops = if nat_lt most_snapshots (length (staying drops (m.root.snapshots ++ s ∷ []))) then Some SnapFull else None
+adopt_refusal m s drops = if nat_lt MOST_SNAPSHOTS (length (staying drops (m.root.snapshots ++ s ∷ []))) then Some SnapFull else None
 
 -- how many different numbers the maps use
 abbrev pub used_of : Maps → ℕ

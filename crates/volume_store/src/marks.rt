@@ -2,7 +2,7 @@
 ghost use Rattle.std.specs.Prelude.{◌≡◌, ◌≢◌, ◌⊎◌, [], ◌∷◌, ℕ, ◌+◌, ◌^◌, ◌++◌, ◌<◌, ◌≤◌, ◌||◌, ◌&&◌, ◌==◌, not, true, false, length, map, take, slice_index, slice_set, IfOk};
 ghost use Rattle.sm_bits.specs.Places.{has, union_of};
 ghost use Rattle.sm_defs.specs.Image.{stands};
-ghost use Rattle.sm_defs.specs.Limits.{most_physical};
+ghost use Rattle.sm_base.specs.declared.limits.TheConstants.{MOST_PHYSICAL};
 ghost use Rattle.sm_defs.specs.Words.{Among};
 ghost use Rattle.sm_root.specs.Condition.{IsRoot, map_of};
 ghost use Rattle.volume_store.specs.Maps.{kept_maps, held_maps, OnePlace, AreMapsOf, AreUsed, AreMarks};
@@ -95,7 +95,7 @@ pub(crate) fn united(alloc: Global, one: &BitMap, other: &BitMap) -> Result<BitM
 
 // No numbers, but for the hole.
 fn no_numbers(alloc: Global, physical: u32) -> Result<BitMap, NoMemory>
-    requires { physical ≤ most_physical }
+    requires { physical ≤ MOST_PHYSICAL }
     ensures { IfOk result (λ set. AreUsed set physical []) }
 {
     let mut set = BitMap::new(alloc, physical + 1)?;
@@ -105,7 +105,7 @@ fn no_numbers(alloc: Global, physical: u32) -> Result<BitMap, NoMemory>
 
 // The numbers of one map.
 pub(crate) fn map_numbers(alloc: Global, physical: u32, map: &[u32]) -> Result<BitMap, NoMemory>
-    requires room { physical ≤ most_physical }
+    requires room { physical ≤ MOST_PHYSICAL }
     requires inside { (i : ℕ) → slice_index map.now i ≤ physical }
     ensures { IfOk result (λ set. AreUsed set physical (map.now ∷ [])) }
 {

@@ -1,7 +1,7 @@
 // The state that a call makes, before its commit.
 ghost use Rattle.std.specs.Prelude.{◌≡◌, ◌≢◌, ℕ, ◌<◌, ◌≤◌, ◌*◌, ◌==◌, suc, cond, ◌^◌, not, true, false, length, map, position, replicate, List, ◌∷◌, ◌++◌, [], take, Some, IfOk, OnErr, MatchOption};
 ghost use Rattle.std.specs.List.{filter};
-ghost use Rattle.sm_defs.specs.Limits.{most_snapshots, most_logical, most_physical, last_number};
+ghost use Rattle.sm_base.specs.declared.limits.TheConstants.{MOST_SNAPSHOTS, MOST_LOGICAL, MOST_PHYSICAL, LAST_NUMBER};
 ghost use Rattle.sm_root.specs.declared.root.RootSnapshot.{RootSnapshot};
 ghost use Rattle.volume_store.specs.Opened.{empty_maps};
 ghost use Rattle.volume_store.specs.Snapshot.{snapshot_of};
@@ -60,9 +60,9 @@ impl State {
         physical: u32,
     ) -> Result<State, NoMemory>
         requires some { 1 ≤ logical }
-        requires few { logical ≤ most_logical }
+        requires few { logical ≤ MOST_LOGICAL }
         requires room { logical ≤ physical }
-        requires places { physical ≤ most_physical }
+        requires places { physical ≤ MOST_PHYSICAL }
         ensures { IfOk result (λ state. state ≡ empty_maps number kind logical physical) }
     {
         let root = Root {
@@ -142,8 +142,8 @@ impl State {
     // A consistency point, and a snapshot of it behind the others.
     pub(crate) fn snapped(&self, alloc: Global, head: Head) -> Result<State, NoMemory>
         requires new { (s : RootSnapshot) → Among self.now.root.snapshots s → ¬ (s.ident ≡ head.ident) }
-        requires room { length self.now.root.snapshots < most_snapshots }
-        requires counted { next_after self.now.root head.ident ≤ last_number }
+        requires room { length self.now.root.snapshots < MOST_SNAPSHOTS }
+        requires counted { next_after self.now.root head.ident ≤ LAST_NUMBER }
         ensures { IfOk result (λ next. next ≡ snapped self.now (snapshot_of head self.now.active)) }
     {
         head.told();
@@ -169,7 +169,7 @@ impl State {
     ) -> Result<State, NoMemory>
         requires new { (s : RootSnapshot) → Among self.now.root.snapshots s → ¬ (s.ident ≡ head.ident) }
         requires list { list.items ≡ staying drops.now (self.now.root.snapshots ++ snapshot_of head map ∷ []) }
-        requires room { length list.items ≤ most_snapshots }
+        requires room { length list.items ≤ MOST_SNAPSHOTS }
         requires fits { AreMapsOf self.now.root.logical self.now.root.physical (map ∷ map_maps (staying drops.now self.now.root.snapshots)) }
         ensures { IfOk result (λ next. next ≡ adopted self.now (snapshot_of head map) family drops.now) }
     {

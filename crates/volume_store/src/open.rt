@@ -1,6 +1,6 @@
 // A volume is made on a disk, or found there.
 ghost use Rattle.std.specs.Prelude.{◌≡◌, ◌⊎◌, ℕ, ◌≤◌, ◌<◌, true, None, IfOk, IfErr, MatchResult, IsTrue};
-ghost use Rattle.sm_defs.specs.Limits.{most_logical, most_physical};
+ghost use Rattle.sm_base.specs.declared.limits.TheConstants.{MOST_LOGICAL, MOST_PHYSICAL};
 ghost use Rattle.sm_disk.specs.Disk.{GoesOn, IsCounted, IsSynced};
 ghost use Rattle.sm_disk.specs.Spared.{Spares};
 ghost use Rattle.sm_slots.specs.Slots.{BehindSlots};
@@ -37,9 +37,9 @@ impl<D: Disk> Store<D> {
         physical: u32,
     ) -> Result<Store<D>, (D, VolumeFault)>
         requires some { 1 ≤ logical }
-        requires few { logical ≤ most_logical }
+        requires few { logical ≤ MOST_LOGICAL }
         requires room { logical ≤ physical }
-        requires places { physical ≤ most_physical }
+        requires places { physical ≤ MOST_PHYSICAL }
 
         ensures ok { IfOk result (λ v. v ≡ record { disk = v.disk; number = 0; maps = empty_maps number kind logical physical; after = None; up = true }) }
         ensures large { IfOk result (λ v. need physical ≤ (D.state disk).size) }

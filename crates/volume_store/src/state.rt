@@ -2,7 +2,7 @@
 ghost use Rattle.std.specs.Prelude.{◌≡◌, ◌≢◌, true, false, ℕ, ◌+◌, ◌<◌, ◌≤◌, ◌∷◌, length, slice_index, slice_set, IfOk, IfNone, OnSome, IfSome, OnOk, OnErr, IsOk, Some, None, List, find, MatchOption};
 ghost use Rattle.std.specs.Option.{option_copied};
 ghost use Rattle.sm_defs.specs.Words.{same_ident, Among};
-ghost use Rattle.sm_defs.specs.Limits.{most_snapshots, last_number};
+ghost use Rattle.sm_base.specs.declared.limits.TheConstants.{MOST_SNAPSHOTS, LAST_NUMBER};
 ghost use Rattle.volume_store.specs.Refusals.{is_full, used_of, read_refusal, map_seen, has_snapshot};
 ghost use Rattle.volume_store.specs.Next.{next_after};
 ghost use Rattle.sm_root.specs.Condition.{IsRoot};
@@ -119,8 +119,8 @@ impl State {
     /// Whether there is no room for a client's snapshot, or none for one of this identity.
     pub(crate) fn is_full(&self, ident: Ident) -> bool
         ensures value { result ≡ is_full self.now.root ident }
-        ensures room { result ≡ false → length self.now.root.snapshots < most_snapshots }
-        ensures counted { result ≡ false → next_after self.now.root ident ≤ last_number }
+        ensures room { result ≡ false → length self.now.root.snapshots < MOST_SNAPSHOTS }
+        ensures counted { result ≡ false → next_after self.now.root ident ≤ LAST_NUMBER }
     {
         let next = self.root.next;
         self.root.snapshots.as_slice().len() == 255

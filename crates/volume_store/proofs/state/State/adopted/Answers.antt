@@ -1,5 +1,5 @@
 use Rattle.std.proofs.Common.{◌≡◌, ◌≤◌, List, [], ◌∷◌, ◌++◌, ℕ, length, sym, refl, ◌∙◌, ap, subst, inl}
-use Rattle.sm_defs.specs.Limits.{most_snapshots}
+use Rattle.sm_base.specs.declared.limits.TheConstants.{MOST_SNAPSHOTS}
 use Rattle.sm_root.specs.declared.root.Root.{Root}
 use Rattle.sm_root.specs.declared.root.RootSnapshot.{RootSnapshot}
 use Rattle.sm_root.specs.Condition.{IsRoot}
@@ -24,7 +24,7 @@ following-requires-clause-maps c =
     ap (λ (w : Maps). remake w.root c.args.family c.args.map c.from_vec.result) c.self.view_is ∙ ap (remake m.root c.args.family c.args.map) (c.from_vec.ensures ∙ c.requires.list) in
     let long = c.requires.fits.long c.args.map (inl refl) in
     moved_maps (remake c.self.inside.root c.args.family c.args.map c.from_vec.result) (adopted m s c.args.family c.args.drops.now).root c.in_ok-active.active.items s.map is c.in_ok-active.ensures
-    (maps_adopted m good maps s c.args.family c.args.drops.now (head_fits c.args.head c.told.ensures c.args.map m.root.logical long) c.requires.new c.ranges.family.fits (subst (λ (xs : List RootSnapshot). length xs ≤ most_snapshots) c.requires.list c.requires.room) c.requires.fits)
+    (maps_adopted m good maps s c.args.family c.args.drops.now (head_fits c.args.head c.told.ensures c.args.map m.root.logical long) c.requires.new c.ranges.family.fits (subst (λ (xs : List RootSnapshot). length xs ≤ MOST_SNAPSHOTS) c.requires.list c.requires.room) c.requires.fits)
 
 pub following-requires-clause-good : goal.following-requires-clause-good
 following-requires-clause-good c =
@@ -36,7 +36,7 @@ following-requires-clause-good c =
     ap (λ (w : Maps). remake w.root c.args.family c.args.map c.from_vec.result) c.self.view_is ∙ ap (remake m.root c.args.family c.args.map) (c.from_vec.ensures ∙ c.requires.list) in
     let long = c.requires.fits.long c.args.map (inl refl) in
     subst IsRoot (sym is)
-    (good_adopted m good maps s c.args.family c.args.drops.now (head_fits c.args.head c.told.ensures c.args.map m.root.logical long) c.requires.new c.ranges.family.fits (subst (λ (xs : List RootSnapshot). length xs ≤ most_snapshots) c.requires.list c.requires.room) c.requires.fits)
+    (good_adopted m good maps s c.args.family c.args.drops.now (head_fits c.args.head c.told.ensures c.args.map m.root.logical long) c.requires.new c.ranges.family.fits (subst (λ (xs : List RootSnapshot). length xs ≤ MOST_SNAPSHOTS) c.requires.list c.requires.room) c.requires.fits)
 
 pub adopted_marks-requires-clause-good : goal.adopted_marks-requires-clause-good
 adopted_marks-requires-clause-good c =
@@ -48,7 +48,7 @@ adopted_marks-requires-clause-good c =
     ap (λ (w : Maps). remake w.root c.args.family c.args.map c.from_vec.result) c.self.view_is ∙ ap (remake m.root c.args.family c.args.map) (c.from_vec.ensures ∙ c.requires.list) in
     let long = c.requires.fits.long c.args.map (inl refl) in
     subst IsRoot (sym is)
-    (good_adopted m good maps s c.args.family c.args.drops.now (head_fits c.args.head c.told.ensures c.args.map m.root.logical long) c.requires.new c.ranges.family.fits (subst (λ (xs : List RootSnapshot). length xs ≤ most_snapshots) c.requires.list c.requires.room) c.requires.fits)
+    (good_adopted m good maps s c.args.family c.args.drops.now (head_fits c.args.head c.told.ensures c.args.map m.root.logical long) c.requires.new c.ranges.family.fits (subst (λ (xs : List RootSnapshot). length xs ≤ MOST_SNAPSHOTS) c.requires.list c.requires.room) c.requires.fits)
 
 pub adopted_marks-requires-clause-maps : goal.adopted_marks-requires-clause-maps
 adopted_marks-requires-clause-maps c =
@@ -60,7 +60,7 @@ adopted_marks-requires-clause-maps c =
     ap (λ (w : Maps). remake w.root c.args.family c.args.map c.from_vec.result) c.self.view_is ∙ ap (remake m.root c.args.family c.args.map) (c.from_vec.ensures ∙ c.requires.list) in
     let long = c.requires.fits.long c.args.map (inl refl) in
     maps_of_root (remake c.self.inside.root c.args.family c.args.map c.from_vec.result) (subst IsRoot (sym is)
-    (good_adopted m good maps s c.args.family c.args.drops.now (head_fits c.args.head c.told.ensures c.args.map m.root.logical long) c.requires.new c.ranges.family.fits (subst (λ (xs : List RootSnapshot). length xs ≤ most_snapshots) c.requires.list c.requires.room) c.requires.fits))
+    (good_adopted m good maps s c.args.family c.args.drops.now (head_fits c.args.head c.told.ensures c.args.map m.root.logical long) c.requires.new c.ranges.family.fits (subst (λ (xs : List RootSnapshot). length xs ≤ MOST_SNAPSHOTS) c.requires.list c.requires.room) c.requires.fits))
 
 pub adopted_marks-requires-clause-behind : goal.adopted_marks-requires-clause-behind
 adopted_marks-requires-clause-behind c = λ none.
