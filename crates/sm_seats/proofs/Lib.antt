@@ -1,0 +1,4 @@
+mod Lists
+mod Gathered
+mod Moving
+mod Numbering
