@@ -29,7 +29,7 @@ use Rattle.laws_families.proofs.FamilyParts.{family_volume}
 use Rattle.laws_families.proofs.FamilyAnswers.{AllStand, family_same}
 use Rattle.laws_cases.proofs.Answers.Plainly.{not_both}
 use Rattle.laws_cases.proofs.Steps.LegsThere.{vault_leg}
-use Rattle.laws_cases.proofs.Steps.RunningTransfers.{here, crossed, transfer, at_x, source_x, not_vault, mirrors_none, same_family}
+use Rattle.laws_cases.proofs.Steps.RunningTransfers.{here, crossed, transfer, at_x, source_x, not_vault, mirrors_none}
 
 -- nobody had the family, and the source has the base or the first leg
 pub family_taken : (w : Up) (i : ℕ) (u : Volume) → SoundUp w → (r : Relationship) (t : Transfer) → Among w.relations r → r.transfer ≡ Some t → is_mirror (policy_at w r.policy).kind ≡ false → i ≡ r.destination → u.family ≡ family_of_transfer t.number →

@@ -4,7 +4,7 @@ use Rattle.std.specs.Prelude.{slice_set, slice_index_or}
 use Rattle.std.specs.List.{find}
 use Rattle.std.specs.Str.{bytes_eq}
 use Rattle.sm_defs.specs.Words.{Found}
-use Rattle.sm_defs.specs.Volume.{Snapshot, has}
+use Rattle.sm_defs.specs.Volume.{Snapshot}
 use Rattle.sm_defs.specs.Relationship.{Rule, Policy, rule_for}
 use Rattle.sm_defs.specs.Legs.{has_rule}
 use Rattle.sm_defs.specs.World.{Up, policy_at, no_policy}

@@ -1,5 +1,5 @@
 -- Where the legs of a transfer are: each on the source but a reserved one that was not made.
-use Rattle.std.proofs.Common.{◌≡◌, ◌⊎◌, Bool, true, false, Some, refl, sym, ◌∙◌, subst, inl, inr, true≢false, ◌≢◌, ℕ, ◌&&◌, not, ap}
+use Rattle.std.proofs.Common.{◌≡◌, ◌⊎◌, Bool, true, false, Some, refl, sym, ◌∙◌, subst, inl, inr, true≢false, ℕ, ◌&&◌, not, ap}
 use Rattle.sm_base.specs.declared.numbers.Ident.{Ident}
 use Rattle.sm_defs.specs.Words.{Among}
 use Rattle.sm_defs.specs.Volume.{has, no_volume}

@@ -1,5 +1,5 @@
 -- A running transfer of a sound world: its relationship, its volumes, its policy, and that no other relationship ends at its destination.
-use Rattle.std.proofs.Common.{◌≡◌, true, ◌≢◌, ◌⊎◌, ℕ, Bool, false, List, [], ◌∷◌, Some, refl, sym, ◌∙◌, ap, inl, inr, true≢false, ◌==◌, ◌&&◌, not, eqb-true}
+use Rattle.std.proofs.Common.{◌≡◌, true, ◌⊎◌, ℕ, Bool, false, List, [], ◌∷◌, Some, refl, sym, ◌∙◌, ap, inl, inr, true≢false, ◌==◌, ◌&&◌, not, eqb-true}
 use Rattle.std.proofs.lemmas.Option.{same_Some}
 use Rattle.sm_defs.specs.Words.{Among}
 use Rattle.sm_defs.specs.Relationship.{Relationship, Transfer, is_mirror}
