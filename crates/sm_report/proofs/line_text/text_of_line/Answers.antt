@@ -1,5 +1,5 @@
 use Rattle.std.proofs.Common.{append_assoc, refl}
-use Rattle.sm_model.proofs.line_text.text_of_line.Goals as goal
+use Rattle.sm_report.proofs.line_text.text_of_line.Goals as goal
 
 pub returns-in_ok-format-in-Head : goal.returns-in_ok-format-in-Head
 returns-in_ok-format-in-Head c = simp (c.in-Head.is, c.in_ok-format-in-Head.ensures.ok, append_assoc) refl

@@ -5,7 +5,7 @@ use Rattle.sm_base.specs.declared.refusal.What.{What}
 use Rattle.sm_base.specs.declared.refusal.What.TheVariants.{Volumes, Policies, Relations, Transfers}
 use Rattle.sm_base.specs.declared.refusal.Refusal.{Refusal}
 use Rattle.sm_base.specs.declared.refusal.Refusal.TheVariants as refusals
-use Rattle.sm_model.specs.Texts.{◌then◌}
+use Rattle.sm_report.specs.Texts.{◌then◌}
 
 abbrev pub refusal_word : Refusal → List ℕ
 refusal_word (refusals.NoVolume path) = codes "NoVolume"

@@ -1,5 +1,5 @@
 ghost use Rattle.std.specs.Prelude.{◌≡◌, IfOk, string_bytes};
-ghost use Rattle.sm_model.specs.RefusalText.{refusal_word, refusal_fields, refusal_text, what_text};
+ghost use Rattle.sm_report.specs.RefusalText.{refusal_word, refusal_fields, refusal_text, what_text};
 
 use sm_base::{NoMemory, Refusal, What};
 use std::alloc::Global;
@@ -103,7 +103,7 @@ fn fields_of(alloc: Global, refusal: &Refusal) -> Result<String, NoMemory>
 }
 
 /// The text of a refusal, without its line end.
-pub fn text_of_refusal(alloc: Global, refusal: &Refusal) -> Result<String, NoMemory>
+pub(crate) fn text_of_refusal(alloc: Global, refusal: &Refusal) -> Result<String, NoMemory>
     ensures { IfOk result (λ text. string_bytes text ≡ refusal_text refusal.now) }
 {
     let word = word_of(refusal);

@@ -1,10 +1,9 @@
 ghost use Rattle.std.specs.Prelude.{◌≡◌, IfOk, string_bytes};
-ghost use Rattle.sm_model.specs.Text.{line_text, label_text, maker_text, condition_text, base_text, course_text, stopped_text, rule_text, rules_text, snapshot_words as words_of_snapshot, listed_text as text_of_listed, relation_words as words_of_relation, policy_text, policy_kind_text, flag_text, state_word, status_word, reason_word, more_rules_text};
+ghost use Rattle.sm_report.specs.Text.{line_text, label_text, maker_text, condition_text, base_text, course_text, stopped_text, rule_text, rules_text, snapshot_words as words_of_snapshot, listed_text as text_of_listed, relation_words as words_of_relation, policy_text, policy_kind_text, flag_text, state_word, status_word, reason_word, more_rules_text};
 
-use crate::reply::{Condition, Course, Line, Rules};
-use crate::world::WorldRule;
 use sm_base::{Ident, Label, NoMemory, Path, Path1, PolicyKind, Reason, RelNo, SnapName, VolNo};
 use sm_defs::{MirrorState, Status4};
+use sm_model::{Condition, Course, Line, Rules, WorldRule};
 use std::alloc::Global;
 
 /// The label, or `-` without one.
@@ -219,7 +218,7 @@ fn text_of_policy(
 }
 
 /// The text of a line of the report or of a table, without its line end.
-pub fn text_of_line(alloc: Global, line: &Line) -> Result<String, NoMemory>
+pub(crate) fn text_of_line(alloc: Global, line: &Line) -> Result<String, NoMemory>
     ensures { IfOk result (λ text. string_bytes text ≡ line_text line.now) }
 {
     match line {

@@ -1,14 +1,12 @@
-ghost use Rattle.std.specs.Prelude.{◌≡◌, ◌++◌, IfOk, OnOk, OnErr, string_bytes, ◌==◌};
+ghost use Rattle.std.specs.Prelude.{◌≡◌, IfOk, string_bytes, ◌==◌};
 ghost use Rattle.std.specs.List.{list_all};
-ghost use Rattle.std.specs.Option.{option_map};
-ghost use Rattle.sm_model.specs.Text.{reply_text, entry_text, bytes_text, same_byte, table_lines, table_text, dropped_text, reason_text, ended_text, settled_text, down_disk as disk_of_down, report_text, is_of_a_disk, ends_settling, shown_text, line_of_text};
+ghost use Rattle.sm_report.specs.Text.{reply_text, bytes_text, same_byte, table_lines, table_text, dropped_text, reason_text, ended_text, settled_text};
 
-use crate::event::Event;
 use crate::line_text::{text_of_line, word_of_reason};
 use crate::refusal_text::text_of_refusal;
-use crate::reply::{Entry, Line, Reply};
 use sha2::{Digest, Sha256};
-use sm_base::{Ident, NoMemory, Reason, Refusal, RelNo};
+use sm_base::{Ident, NoMemory, Reason, RelNo};
+use sm_model::{Line, Reply};
 use std::alloc::Global;
 
 fn all_are(byte: u8, bytes: &[u8]) -> bool
@@ -145,8 +143,8 @@ pub fn text_of_reply(alloc: Global, reply: &Reply) -> Result<String, NoMemory>
             legs,
         } => Ok(format!(in alloc; "ok transfer={transfer} common={common} legs={legs}")?),
         Reply::Bytes { block } => text_of_bytes(alloc, &block.0),
-        Reply::Line(line) => text_of_line(alloc, line),
-        Reply::Table(lines) => text_of_table(alloc, &lines.lines),
+        Reply::Line { line } => text_of_line(alloc, line),
+        Reply::Table { lines } => text_of_table(alloc, &lines.lines),
         Reply::Reverted { relation, dropped } => {
             let went = text_of_dropped(alloc, *relation, *dropped)?;
             Ok(format!(in alloc; "revert{went}")?)
@@ -196,98 +194,4 @@ pub fn text_of_reply(alloc: Global, reply: &Reply) -> Result<String, NoMemory>
         Reply::Idle => Ok(String::from_str(alloc, "idle")?),
         Reply::Refused(refusal) => text_of_refusal(alloc, refusal),
     }
-}
-
-/// The disk since whose failure the node is down, where the reply says that it is.
-#[tactic(auto, unfolding(crate::specs::Text::down_disk))]
-fn down_disk(reply: &Reply) -> Option<u32>
-    ensures { result ≡ disk_of_down reply.now }
-{
-    match reply {
-        Reply::Refused(Refusal::Down { disk }) => Some(disk.0),
-        Reply::Refused(Refusal::DiskFault { disk, .. }) => Some(disk.0),
-        _ => None,
-    }
-}
-
-/// What a report's event prints.
-fn text_of_report(alloc: Global, reply: &Reply) -> Result<String, NoMemory>
-    ensures { IfOk result (λ text. string_bytes text ≡ report_text reply.now) }
-{
-    match down_disk(reply) {
-        None => text_of_reply(alloc, reply),
-        Some(disk) => Ok(format!(in alloc; "report down disk={disk}")?),
-    }
-}
-
-/// Whether a disk failed, now or before.
-#[tactic(auto, unfolding(crate::specs::Text::is_of_a_disk))]
-fn is_of_a_disk(refusal: &Refusal) -> bool
-    ensures { result ≡ is_of_a_disk refusal.now }
-{
-    match refusal {
-        Refusal::Down { .. } => true,
-        Refusal::DiskFault { .. } => true,
-        _ => false,
-    }
-}
-
-/// What is printed of steps that are not shown: the one that ends them.
-#[tactic(auto, unfolding(crate::specs::Text::ends_settling))]
-fn end_of_settling(alloc: Global, reply: &Reply) -> Result<Option<String>, NoMemory>
-    ensures { IfOk result (λ text. option_map string_bytes text ≡ ends_settling reply.now) }
-{
-    match reply {
-        Reply::Idle => Ok(Some(String::from_str(alloc, "settled")?)),
-        Reply::Refused(refusal) => {
-            if is_of_a_disk(refusal) {
-                Ok(Some(text_of_refusal(alloc, refusal)?))
-            } else {
-                Ok(None)
-            }
-        }
-        _ => Ok(None),
-    }
-}
-
-/// What is printed of an entry, if anything, without its line's number and its line end.
-#[tactic(auto, unfolding(crate::specs::Text::shown_text))]
-fn text_shown(alloc: Global, entry: &Entry) -> Result<Option<String>, NoMemory>
-    ensures { IfOk result (λ text. option_map string_bytes text ≡ shown_text entry.now.event entry.now.reply) }
-{
-    match &entry.event {
-        Event::Work { shown: false } => end_of_settling(alloc, &entry.reply),
-        Event::Head => Ok(Some(text_of_report(alloc, &entry.reply)?)),
-        Event::VolumeLine { .. } => Ok(Some(text_of_report(alloc, &entry.reply)?)),
-        Event::Digest { .. } => Ok(Some(text_of_report(alloc, &entry.reply)?)),
-        Event::RelationLine { .. } => Ok(Some(text_of_report(alloc, &entry.reply)?)),
-        _ => Ok(Some(text_of_reply(alloc, &entry.reply)?)),
-    }
-}
-
-/// A text with its line's number and its line end.
-fn numbered_text(alloc: Global, line: u32, text: &Option<String>) -> Result<String, NoMemory>
-    ensures { IfOk result (λ whole. string_bytes whole ≡ line_of_text line (option_map string_bytes text.now)) }
-{
-    match text {
-        None => Ok(String::new(alloc)),
-        Some(text) => {
-            if line == 0 {
-                Ok(format!(in alloc; "{text}\n")?)
-            } else {
-                Ok(format!(in alloc; "{line}: {text}\n")?)
-            }
-        }
-    }
-}
-
-/// Adds what is printed for an entry, with its line end. An `Err` leaves `out`.
-pub fn add_entry(alloc: Global, entry: &Entry, out: &mut Vec<u8>) -> Result<(), NoMemory>
-    ensures ok { OnOk result (out.new.items ≡ out.old.items ++ entry_text entry.now) }
-    ensures err { OnErr result (out.new.items ≡ out.old.items) }
-{
-    let shown = text_shown(alloc, entry)?;
-    let text = numbered_text(alloc, entry.line, &shown)?;
-    out.extend_from_slice(text.as_bytes())?;
-    Ok(())
 }
