@@ -16,7 +16,7 @@ use Rattle.sm_model.specs.LegalRun.{IsChosen, IsQuiet, IsRestart, Fits, done, qu
 use Rattle.sm_report.specs.Transcript.{shown_text, line_of_text, printed_text, transcript}
 use Rattle.laws_idle.proofs.Choosing.{chosen_is_due}
 use Rattle.laws_contents.proofs.Contents.{each_left}
-use Rattle.laws_run.specs.Early.{IsDecided, IsFaultless, AllFaultless, AllChosen}
+use Rattle.laws_run.specs.Histories.{IsDecided, IsFaultless, AllFaultless, AllChosen}
 use Rattle.laws_run.proofs.Determined.{Follows, follows, text_after, world_after, sides_after, same_head, same_tail, prints_line, prints_same}
 
 -- ---- a worker's entry

@@ -18,7 +18,7 @@ use Rattle.sm_model.specs.Opened.{opened}
 use Rattle.sm_model.specs.LegalRun.{IsDone, IsRefused, IsDeed, IsQuiet, IsRestart, Fits, done, quiet, failed, down_still, restart_up, restart_before, restart_after, restart_failed_up, restart_failed, Run}
 use Rattle.sm_report.specs.Text.{reply_text, bytes_text}
 use Rattle.sm_report.specs.Transcript.{down_disk, shown_text, line_of_text, entry_text, printed_text, transcript}
-use Rattle.laws_run.specs.Early.{IsDecided, AllDecided, IsFaultless, AllFaultless}
+use Rattle.laws_run.specs.Histories.{IsDecided, AllDecided, IsFaultless, AllFaultless}
 
 -- ---- what an answer prints, and where it leads
 

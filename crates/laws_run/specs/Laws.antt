@@ -19,7 +19,7 @@ use Rattle.sm_model.specs.Sound.{SoundUp, Sound}
 use Rattle.sm_model.specs.Asked.{asked_of}
 use Rattle.sm_report.specs.Transcript.{transcript}
 use Rattle.laws_contents.specs.Contents.{BeginSound}
-use Rattle.laws_run.specs.Early.{AllDecided, AllChosen, AllFaultless, IsFaultless}
+use Rattle.laws_run.specs.Histories.{AllDecided, AllChosen, AllFaultless, IsFaultless}
 use Rattle.laws_run.specs.Listed.{IsListed}
 
 abbrev pub EmptyWorldIsSound : Type 0

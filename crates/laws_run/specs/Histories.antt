@@ -1,28 +1,13 @@
--- Events on volumes alone. What is proved of whole runs is proved of these so far.
-use Rattle.std.specs.Prelude.{◌≡◌, ℕ, List, [], Option}
+-- Which histories the laws speak of: those in which no disk fails, and in which no worker may choose.
+use Rattle.std.specs.Prelude.{◌≡◌, ℕ, List}
 use Rattle.std.specs.List.{AllByRecursion}
 use Rattle.sm_base.specs.declared.numbers.DiskNo.{DiskNo}
-use Rattle.sm_base.specs.declared.numbers.VolNo.{VolNo}
-use Rattle.sm_base.specs.declared.numbers.Kind.{Kind}
 use Rattle.sm_model.specs.declared.event.Event.{Event}
 use Rattle.sm_model.specs.declared.event.Event.TheVariants as events
 use Rattle.sm_model.specs.declared.reply.Entry.{Entry}
 use Rattle.sm_model.specs.declared.reply.Reply.{Reply}
 use Rattle.sm_model.specs.World.{Deed}
 use Rattle.sm_model.specs.LegalRun.{fault, is_down, IsChosen}
-use Rattle.sm_defs.specs.World.{Up}
-
-pub data IsEarly : Event → Type 0 where
-  creates : (path : List ℕ) (disk : DiskNo) (kind : Kind) (logical physical : ℕ) → IsEarly (events.CreateVolume path disk kind logical physical)
-  writes : (path : List ℕ) (block fill : ℕ) → IsEarly (events.Write path block fill)
-  snaps : (path name : List ℕ) (label : Option (List ℕ)) → IsEarly (events.Snap path name label)
-  reads : (path : List ℕ) (name : Option (List ℕ)) (block : ℕ) → IsEarly (events.Read path name block)
-  heads : IsEarly events.Head
-  lists : (volume : VolNo) → IsEarly (events.VolumeLine volume)
-  digests : (volume : VolNo) (place : Option ℕ) → IsEarly (events.Digest volume place)
-
-abbrev pub AllEarly : List Entry → Type 0
-AllEarly es = AllByRecursion (λ e. IsEarly e.event) es
 
 -- the reply tells of no disk that failed, now or before
 pub record IsFaultless (reply : Reply) : Type 0 where
@@ -43,8 +28,3 @@ AllDecided es = AllByRecursion (λ e. IsDecided e.event) es
 -- each worker's step is the one that this program chooses for its actor
 abbrev pub AllChosen : List Deed → Type 0
 AllChosen ds = AllByRecursion (λ d. IsChosen d.event d) ds
-
--- no relationship and no policy stands
-pub record IsBare (w : Up) : Type 0 where
-  pub relations : w.relations ≡ []
-  pub policies : w.policies ≡ []
