@@ -8,16 +8,16 @@ use Rattle.sm_model.specs.declared.event.Event.TheVariants as events
 use Rattle.sm_model.specs.declared.reply.Reply.{Reply}
 use Rattle.sm_model.specs.declared.reply.Reply.TheVariants as replies
 use Rattle.sm_model.specs.Asked.{asked_of}
-use Rattle.sm_model.specs.Text.{shown_text, line_of_text, entry_text, transcript}
 use Rattle.sm_model.specs.World.{World, up, Deed}
 use Rattle.sm_model.specs.Steps.{Effect}
 use Rattle.sm_model.specs.Due.{IsIdle}
 use Rattle.sm_model.specs.Choice.{chosen}
 use Rattle.sm_model.specs.LegalRun.{IsChosen, IsQuiet, IsRestart, Fits, done, quiet, failed, down_still, restart_up, restart_before, restart_after, restart_failed_up, restart_failed, Run}
+use Rattle.sm_report.specs.Transcript.{shown_text, line_of_text, printed_text, transcript}
 use Rattle.laws_idle.proofs.Choosing.{chosen_is_due}
 use Rattle.laws_contents.proofs.Contents.{each_left}
-use Rattle.laws_run.specs.Early.{IsDecided, IsFaultless, AllFaultless, AllChosen}
-use Rattle.laws_run.proofs.Determined.{Follows, follows, text_after, world_after, sides_after, same_head, same_tail, prints_line}
+use Rattle.laws_run.specs.Histories.{IsDecided, IsFaultless, AllFaultless, AllChosen}
+use Rattle.laws_run.proofs.Determined.{Follows, follows, text_after, world_after, sides_after, same_head, same_tail, prints_line, prints_same}
 
 -- ---- a worker's entry
 
@@ -129,8 +129,8 @@ agree {old} {new} {new'} {e} {f} {sides} {left} {left'} h m n c c' x y = go (dec
 
 -- ---- runs
 
-same_entry : (e f : Entry) → asked_of e ≡ asked_of f → shown_text e.event e.reply ≡ shown_text f.event f.reply → entry_text e ≡ entry_text f
-same_entry e f a p = prints_line e ∙ (ap₂ line_of_text (ap (λ x. x.line) a) p ∙ sym (prints_line f))
+same_entry : (e f : Entry) → asked_of e ≡ asked_of f → shown_text e.event e.reply ≡ shown_text f.event f.reply → printed_text e ≡ printed_text f
+same_entry e f a p = prints_same e f a (prints_line e ∙ (ap₂ line_of_text (ap (λ x. x.line) a) p ∙ sym (prints_line f)))
 
 parts : (ds first later : List Deed) → ds ≡ first ++ later → AllChosen ds → AllChosen first × AllChosen later
 parts ds first later q h = each_left (λ d. IsChosen d.event d) first later (subst AllChosen q h)

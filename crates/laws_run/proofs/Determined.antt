@@ -1,5 +1,5 @@
 -- What was asked determines the text and the last world.
-use Rattle.std.proofs.Common.{◌≡◌, ℕ, List, [], ◌∷◌, ◌++◌, map, Option, Some, None, Ok, Err, Box, refl, sym, ap, ap₂, subst, ◌∙◌}
+use Rattle.std.proofs.Common.{◌≡◌, ℕ, ◌==◌, if◌then◌else◌, List, [], ◌∷◌, ◌++◌, map, Option, Some, None, Ok, Err, Box, refl, sym, ap, ap₂, subst, ◌∙◌}
 use Rattle.std.specs.Global.{Global}
 use Rattle.sm_base.specs.declared.numbers.Block.{Block as StoredBlock}
 use Rattle.sm_base.specs.declared.numbers.Side.{Side}
@@ -13,11 +13,12 @@ use Rattle.sm_model.specs.declared.reply.Reply.TheVariants as replies
 use Rattle.sm_model.specs.Answers.{Answer, Told, told, bytes, Tells}
 use Rattle.sm_model.specs.Answer.{answer}
 use Rattle.sm_model.specs.Asked.{Asked, asked_of}
-use Rattle.sm_model.specs.Text.{reply_text, bytes_text, down_disk, shown_text, line_of_text, entry_text, transcript}
 use Rattle.sm_model.specs.World.{World, up, down, Deed}
 use Rattle.sm_model.specs.Opened.{opened}
 use Rattle.sm_model.specs.LegalRun.{IsDone, IsRefused, IsDeed, IsQuiet, IsRestart, Fits, done, quiet, failed, down_still, restart_up, restart_before, restart_after, restart_failed_up, restart_failed, Run}
-use Rattle.laws_run.specs.Early.{IsDecided, AllDecided, IsFaultless, AllFaultless}
+use Rattle.sm_report.specs.Text.{reply_text, bytes_text}
+use Rattle.sm_report.specs.Transcript.{down_disk, shown_text, line_of_text, entry_text, printed_text, transcript}
+use Rattle.laws_run.specs.Histories.{IsDecided, AllDecided, IsFaultless, AllFaultless}
 
 -- ---- what an answer prints, and where it leads
 
@@ -148,14 +149,18 @@ follows (restart_failed disk count r k) y n = absurd (n.no_fault disk count k)
 pub prints_line : (e : Entry) → entry_text e ≡ line_of_text e.line (shown_text e.event e.reply)
 prints_line e = refl
 
+-- actor and text of an entry say what the transcript has of it
+pub prints_same : (e f : Entry) → asked_of e ≡ asked_of f → entry_text e ≡ entry_text f → printed_text e ≡ printed_text f
+prints_same e f a t = ap₂ (λ (actor : ℕ) (text : List ℕ). if actor == 0 then text else []) (ap (λ x. x.actor) a) t
+
 pub same_head : (x y : Asked) (xs ys : List Asked) → ◌≡◌ {A = List Asked} (x ∷ xs) (y ∷ ys) → x ≡ y
 same_head x y xs ys e = cc
 
 pub same_tail : (x y : Asked) (xs ys : List Asked) → ◌≡◌ {A = List Asked} (x ∷ xs) (y ∷ ys) → xs ≡ ys
 same_tail x y xs ys e = cc
 
-same_entry : (w : World) (e f : Entry) → asked_of e ≡ asked_of f → shown_text e.event e.reply ≡ text_after w e.event → shown_text f.event f.reply ≡ text_after w f.event → entry_text e ≡ entry_text f
-same_entry w e f a p q = prints_line e ∙ (ap₂ line_of_text (ap (λ x. x.line) a) (p ∙ (ap (λ x. text_after w x.event) a ∙ sym q)) ∙ sym (prints_line f))
+same_entry : (w : World) (e f : Entry) → asked_of e ≡ asked_of f → shown_text e.event e.reply ≡ text_after w e.event → shown_text f.event f.reply ≡ text_after w f.event → printed_text e ≡ printed_text f
+same_entry w e f a p q = prints_same e f a (prints_line e ∙ (ap₂ line_of_text (ap (λ x. x.line) a) (p ∙ (ap (λ x. text_after w x.event) a ∙ sym q)) ∙ sym (prints_line f)))
 
 pub determined : (start new other : World) (es fs : List Entry) (sides : List Side) (ds others : List Deed) → AllDecided es → AllFaultless es → AllFaultless fs →
     Run start es sides ds new → Run start fs sides others other → map asked_of es ≡ map asked_of fs → (transcript es ≡ transcript fs) × (new ≡ other)

@@ -1,13 +1,8 @@
 -- The empty world is sound.
-use Rattle.std.proofs.Common.{ℕ, List, refl, arith}
+use Rattle.std.proofs.Common.{ℕ, List, arith}
 use Rattle.sm_defs.specs.World.{empty_world}
 use Rattle.sm_model.specs.Formed.{Formed}
 use Rattle.sm_model.specs.Sound.{SoundUp}
-use Rattle.laws_run.specs.Early.{IsBare}
-use Rattle.laws_run.proofs.Bare.{sound_if_bare}
-
-pub empty_bare : (disks : List ℕ) → IsBare (empty_world disks)
-empty_bare disks = record { relations = refl; policies = refl }
 
 empty_formed : (disks : List ℕ) → Formed (empty_world disks)
 empty_formed disks = record {
@@ -27,12 +22,16 @@ empty_formed disks = record {
 }
 
 pub empty_sound : (disks : List ℕ) → SoundUp (empty_world disks)
-empty_sound disks = sound_if_bare (empty_world disks) (empty_bare disks) (record {
+empty_sound disks = record {
   formed = empty_formed disks;
   tags_fit = λ v m. absurd m;
   copies_agree = λ v u s t a. absurd a.0;
   families_agree = λ v u s t a. absurd a.0;
+  crossed = record { relations = λ r m. absurd m; transfers = λ r t m. absurd m; destinations_differ = tt; transfers_differ = tt };
   destinations_stand = record { volumes = λ v m. absurd m; bases = λ r m. absurd m };
+  legs_fit = λ r t m. absurd m;
   numbers_stand = record { snapshots = λ v s a. absurd a.0; unmade = λ r t m. absurd m };
-  families = λ v m. absurd m;
-})
+  families_stand = record { given = λ v m. absurd m; transfers = λ r t m. absurd m };
+  legs_kept = λ r t m. absurd m;
+  transfers_stand = λ r t m. absurd m;
+}

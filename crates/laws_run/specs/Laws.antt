@@ -17,9 +17,9 @@ use Rattle.sm_model.specs.World.{World, up, Deed}
 use Rattle.sm_model.specs.LegalRun.{Fits, Run}
 use Rattle.sm_model.specs.Sound.{SoundUp, Sound}
 use Rattle.sm_model.specs.Asked.{asked_of}
-use Rattle.sm_model.specs.Text.{transcript}
+use Rattle.sm_report.specs.Transcript.{transcript}
 use Rattle.laws_contents.specs.Contents.{BeginSound}
-use Rattle.laws_run.specs.Early.{AllDecided, AllChosen, AllFaultless, IsFaultless}
+use Rattle.laws_run.specs.Histories.{AllDecided, AllChosen, AllFaultless, IsFaultless}
 use Rattle.laws_run.specs.Listed.{IsListed}
 
 abbrev pub EmptyWorldIsSound : Type 0

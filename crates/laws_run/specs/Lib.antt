@@ -1,4 +1,4 @@
-pub mod Early
+pub mod Histories
 pub mod Listed
 pub mod Laws
 pub mod Worlds

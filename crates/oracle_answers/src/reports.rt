@@ -39,7 +39,9 @@ pub fn show_volumes(world: &PlainWorld, alloc: Global) -> Result<Reply, PlainFau
     ensures { IfOk result (λ reply. Answers world.now (model.show_volumes world.now) reply world.now) }
 {
     let lines = volume_lines(alloc, 0, &world.volumes)?;
-    Ok(Reply::Table(Lines { lines }))
+    Ok(Reply::Table {
+        lines: Lines { lines },
+    })
 }
 
 fn listed_lines(
@@ -75,7 +77,9 @@ pub fn show_snapshots(world: &PlainWorld, alloc: Global, path: &Path) -> Result<
         return refuse_path(alloc, path);
     };
     let lines = lines_at(alloc, world, at)?;
-    Ok(Reply::Table(Lines { lines }))
+    Ok(Reply::Table {
+        lines: Lines { lines },
+    })
 }
 
 fn policy_lines(alloc: Global, policies: &[WorldPolicy]) -> Result<Vec<Line>, NoMemory>
@@ -97,7 +101,9 @@ pub fn show_policies(world: &PlainWorld, alloc: Global) -> Result<Reply, PlainFa
     ensures { IfOk result (λ reply. Answers world.now (model.show_policies world.now) reply world.now) }
 {
     let lines = policy_lines(alloc, &world.policies)?;
-    Ok(Reply::Table(Lines { lines }))
+    Ok(Reply::Table {
+        lines: Lines { lines },
+    })
 }
 
 fn relation_lines(
@@ -123,19 +129,23 @@ pub fn show_relations(world: &PlainWorld, alloc: Global) -> Result<Reply, PlainF
     ensures { IfOk result (λ reply. Answers world.now (model.show_relations world.now) reply world.now) }
 {
     let lines = relation_lines(alloc, world, &world.relations)?;
-    Ok(Reply::Table(Lines { lines }))
+    Ok(Reply::Table {
+        lines: Lines { lines },
+    })
 }
 
 /// The report's first line.
 pub fn head(world: &PlainWorld) -> Result<Reply, PlainFault>
     ensures { IfOk result (λ reply. Answers world.now (model.head world.now) reply world.now) }
 {
-    Ok(Reply::Line(Line::Head {
-        volumes: small(world.volumes.len())?,
-        relationships: small(world.relations.len())?,
-        policies: small(world.policies.len())?,
-        clock: world.clock,
-    }))
+    Ok(Reply::Line {
+        line: Line::Head {
+            volumes: small(world.volumes.len())?,
+            relationships: small(world.relations.len())?,
+            policies: small(world.policies.len())?,
+            clock: world.clock,
+        },
+    })
 }
 
 /// The report's line on a volume.
@@ -143,7 +153,9 @@ pub fn of_volume(world: &PlainWorld, alloc: Global, number: VolNo) -> Result<Rep
     ensures { IfOk result (λ reply. Answers world.now (model.of_volume world.now number) reply world.now) }
 {
     let volume = volume_of(world, number)?;
-    Ok(Reply::Line(volume_line(alloc, number, volume)?))
+    Ok(Reply::Line {
+        line: volume_line(alloc, number, volume)?,
+    })
 }
 
 fn digest_line(
@@ -176,7 +188,9 @@ pub fn of_image(
     ensures { IfOk result (λ reply. Answers world.now (model.of_image world.now number place) reply world.now) }
 {
     let volume = volume_of(world, number)?;
-    Ok(Reply::Line(digest_line(alloc, number, volume, place)?))
+    Ok(Reply::Line {
+        line: digest_line(alloc, number, volume, place)?,
+    })
 }
 
 fn first_numbered(relations: &[WorldRelation], number: RelNo) -> Option<usize>
@@ -205,5 +219,7 @@ pub fn of_relation(world: &PlainWorld, alloc: Global, number: RelNo) -> Result<R
     ensures { IfOk result (λ reply. Answers world.now (model.of_relation world.now number) reply world.now) }
 {
     let relation = numbered(world, number)?;
-    Ok(Reply::Line(relation_line(alloc, world, relation)?))
+    Ok(Reply::Line {
+        line: relation_line(alloc, world, relation)?,
+    })
 }

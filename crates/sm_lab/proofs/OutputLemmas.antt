@@ -3,7 +3,7 @@ use Rattle.std.proofs.Common.{◌≡◌, ◌≢◌, ℕ, ◌<◌, List, ◌++◌
 use Rattle.std.proofs.Math.Seq.{take-length}
 use Rattle.std.specs.Io.KnownBytes.{append_known}
 use Rattle.sm_stream.specs.Whole.{GotPart}
-use Rattle.sm_model.specs.Text.{transcript}
+use Rattle.sm_report.specs.Transcript.{transcript}
 use Rattle.sm_model.specs.declared.reply.Entry.{Entry}
 use Rattle.sm_lab.specs.declared.status.Status as the_status
 use Rattle.sm_lab.specs.declared.status.Status.TheVariants as statuses

@@ -10,7 +10,8 @@ use Rattle.sm_script.specs.Script.{Parsed, parse}
 use Rattle.sm_script.specs.declared.command.Command.{Command}
 use Rattle.sm_lab.specs.Node.{start}
 use Rattle.sm_lab.specs.History.{asked_by, all_asked, Reaches, IsLegal, HasBegun, IsWholeRun, IsPartRun}
-use Rattle.sm_lab.specs.Status.{longest_script, IsCaused, IsHistory, IsRun, HasHistory, due, due_of, IsDue}
+use Rattle.sm_base.specs.declared.limits.TheConstants.{LONGEST_SCRIPT}
+use Rattle.sm_lab.specs.Status.{IsCaused, IsHistory, IsRun, HasHistory, due, due_of, IsDue}
 use Rattle.sm_lab.proofs.RunLemmas.{nothing_yet}
 use Rattle.sm_lab.specs.Output.{Ends, IsPrinted, IsWritten}
 use Rattle.sm_lab.specs.declared.status.Status as the_status
@@ -127,11 +128,11 @@ given_text (Some rest) text bytes e end =
     let none_left : bytes ++ [] ≡ bytes = append-nil bytes in
     cc
 
-due_short : (text bytes : List ℕ) (parsed : Parsed) → bytes ≡ text → length bytes ≤ longest_script → parse bytes ≡ parsed → due true text ≡ due_of parsed
+due_short : (text bytes : List ℕ) (parsed : Parsed) → bytes ≡ text → length bytes ≤ LONGEST_SCRIPT → parse bytes ≡ parsed → due true text ≡ due_of parsed
 due_short text bytes parsed e short p =
     let q : parse text ≡ parsed = rw e at p in
-    let l : length text ≤ longest_script = rw e at short in
-    let within : nat_lt longest_script (length text) ≡ false = grind (arith, nat_tests) in
+    let l : length text ≤ LONGEST_SCRIPT = rw e at short in
+    let within : nat_lt LONGEST_SCRIPT (length text) ≡ false = grind (arith, nat_tests) in
     rw (within, q) refl
 
 long_text : (new : Option (List ℕ)) (text bytes : List ℕ) → Some text ≡ prepend_known bytes new → length bytes ≤ length text
@@ -140,9 +141,9 @@ long_text (Some rest) text bytes e =
     let whole : text ≡ bytes ++ rest = cc in
     rw whole (simp length-append (omega arith))
 
-due_long : (text : List ℕ) → longest_script + 1 ≤ length text → due true text ≡ statuses.ScriptTooLong
+due_long : (text : List ℕ) → LONGEST_SCRIPT + 1 ≤ length text → due true text ≡ statuses.ScriptTooLong
 due_long text long =
-    let beyond : nat_lt longest_script (length text) ≡ true = grind (arith, nat_tests) in
+    let beyond : nat_lt LONGEST_SCRIPT (length text) ≡ true = grind (arith, nat_tests) in
     rw beyond refl
 
 pub due_holds : (taken : Bool) (old new : Option (List ℕ)) (read write : Type 0) (status : the_status.Status) → IsCaused taken old new read write status → IsDue taken old read write status

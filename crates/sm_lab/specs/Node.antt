@@ -8,7 +8,7 @@ use Rattle.sm_base.specs.declared.refusal.Refusal.{Refusal}
 use Rattle.sm_base.specs.declared.refusal.Refusal.TheVariants as refusals
 use Rattle.sm_model.specs.declared.reply.Reply.{Reply}
 use Rattle.sm_model.specs.declared.reply.Reply.TheVariants as replies
-use Rattle.sm_base.specs.declared.limits.TheConstants.{MOST_VOLUMES, MOST_SNAPSHOTS, LAST_NUMBER}
+use Rattle.sm_base.specs.declared.limits.TheConstants.{MOST_VOLUMES, MOST_SNAPSHOTS, MOST_DISKS, DISK_LENGTH, LAST_NUMBER}
 use Rattle.sm_defs.specs.Volume as model
 use Rattle.sm_defs.specs.World.{Up, empty_world}
 use Rattle.sm_defs.specs.Image.{Image, full_block}
@@ -32,9 +32,9 @@ volume_of v = record {
   snapshots = map snapshot_of v.snapshots.items;
 }
 
--- 33 disks, each as long as the longest volume needs
+-- as many disks as there may be, each as long as the longest volume needs
 abbrev pub plain_disks : List ℕ
-plain_disks = replicate 33 92835840
+plain_disks = replicate MOST_DISKS DISK_LENGTH
 
 -- where each run begins
 abbrev pub start : Up

@@ -1,8 +1,8 @@
 -- What is written.
 use Rattle.std.specs.Prelude.{◌≡◌, ℕ, ◌<◌, List, [], ◌∷◌, ◌++◌, take, length, codes, decimal, Option}
 use Rattle.std.specs.Io.KnownBytes.{append_known}
-use Rattle.sm_model.specs.Texts.{◌then◌}
-use Rattle.sm_model.specs.Text.{transcript}
+use Rattle.sm_report.specs.Texts.{◌then◌}
+use Rattle.sm_report.specs.Transcript.{transcript}
 use Rattle.sm_model.specs.declared.reply.Entry.{Entry}
 use Rattle.sm_script.specs.declared.command.LineKind.{LineKind}
 use Rattle.sm_script.specs.declared.command.LineKind.TheVariants as kinds

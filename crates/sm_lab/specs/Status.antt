@@ -3,6 +3,7 @@ use Rattle.std.specs.Prelude.{◌≡◌, ℕ, ◌+◌, ◌≤◌, nat_lt, Bool, 
 use Rattle.std.specs.Global.{Global}
 use Rattle.std.specs.Str.{bytes_eq}
 use Rattle.std.specs.Io.KnownBytes.{prepend_known, IsAtEnd}
+use Rattle.sm_base.specs.declared.limits.TheConstants.{LONGEST_SCRIPT}
 use Rattle.sm_stream.specs.Whole.{Took}
 use Rattle.sm_model.specs.declared.reply.Entry.{Entry}
 use Rattle.sm_script.specs.declared.command.Command.{Command}
@@ -31,13 +32,9 @@ mode_words (name ∷ mode ∷ more ∷ words) = false
 abbrev pub takes : List (String Global) → Bool
 takes words = mode_words (map (λ w. string_bytes w) words)
 
--- the greatest length of a script, in bytes
-abbrev pub longest_script : ℕ
-longest_script = 16777216
-
 -- the source, of which these bytes were left, gave a whole text that says this
 abbrev pub Gave : Option (List ℕ) → Option (List ℕ) → Parsed → Type 0
-Gave old new parsed = (text : List ℕ) × (length text ≤ longest_script) × (old ≡ prepend_known text new) × IsAtEnd new × (parse text ≡ parsed)
+Gave old new parsed = (text : List ℕ) × (length text ≤ LONGEST_SCRIPT) × (old ≡ prepend_known text new) × IsAtEnd new × (parse text ≡ parsed)
 
 abbrev pub GaveScript : Option (List ℕ) → Option (List ℕ) → Type 0
 GaveScript old new = (commands : List Command) × Gave old new (Ok commands)
@@ -48,7 +45,7 @@ abbrev pub IsCaused : Bool → Option (List ℕ) → Option (List ℕ) → Type 
 IsCaused taken old new read write statuses.Fine = (taken ≡ true) × GaveScript old new
 IsCaused taken old new read write statuses.Usage = taken ≡ false
 IsCaused taken old new read write (statuses.BadLine line kind) = (taken ≡ true) × Gave old new (Err (record { line = line; kind = kind }))
-IsCaused taken old new read write statuses.ScriptTooLong = (taken ≡ true) × Took (longest_script + 1) old new
+IsCaused taken old new read write statuses.ScriptTooLong = (taken ≡ true) × Took (LONGEST_SCRIPT + 1) old new
 IsCaused taken old new read write statuses.ReadFault = (taken ≡ true) × read
 IsCaused taken old new read write statuses.WriteFault = write
 IsCaused taken old new read write statuses.NoMemory = Unit {0}
@@ -89,7 +86,7 @@ due_of (Err bad) = statuses.BadLine bad.line bad.kind
 -- the status of these words and this script where nothing fails
 abbrev pub due : Bool → List ℕ → the_status.Status
 due false text = statuses.Usage
-due true text = if nat_lt longest_script (length text) then statuses.ScriptTooLong else due_of (parse text)
+due true text = if nat_lt LONGEST_SCRIPT (length text) then statuses.ScriptTooLong else due_of (parse text)
 
 -- Where the bytes of the source are told and neither it nor the sink fails, the status is the one due, or memory ran out.
 abbrev pub IsDue : Bool → Option (List ℕ) → Type 0 → Type 0 → the_status.Status → Type 0

@@ -8,19 +8,17 @@ ghost use Rattle.sm_model.specs.OfVolumes as volumes;
 ghost use Rattle.sm_model.specs.OfReport as reports;
 ghost use Rattle.sm_model.specs.declared.reply.Reply.TheVariants as replies;
 ghost use Rattle.sm_base.specs.declared.refusal.Refusal.TheVariants as refusals;
-ghost use Rattle.sm_base.specs.declared.limits.TheConstants.{MOST_VOLUMES};
-ghost use Rattle.laws_run.specs.Early.{IsEarly};
+ghost use Rattle.sm_base.specs.declared.limits.TheConstants.{MOST_VOLUMES, MOST_SNAPSHOTS, MOST_LOGICAL, MOST_PHYSICAL};
+ghost use Rattle.sm_lab.specs.Reporting.{IsServed};
 ghost use Rattle.sm_lab.specs.Node.{start, IsAnswered, Answers, IsWritten, IsSnapped, ChangesOne, create_test, write_test, snap_test, volume_of};
 
 use crate::volume::Volume;
 use crate::volumes::{image_line, make_volume, read_from, snap_to, volume_line, write_to};
+use sm_base::limits::{BLOCKS_START, DISK_LENGTH, MOST_DISKS, MOST_VOLUMES};
 use sm_base::{DiskNo, Kind, Label, NoMemory, Path, Refusal, SnapName, VolNo, What};
-use sm_model::{Event, Line, Reply};
+use sm_model::{Event, Line, Reply, WorldRelation};
 use std::alloc::Global;
 use std::marker::Model;
-
-/// The length of each disk, in bytes: as long as the longest volume needs.
-const DISK_LENGTH: u64 = 92_835_840;
 
 fn find_path(volumes: &[Volume], path: &[u8]) -> Option<usize>
     ensures { result ≡ position (λ v. bytes_eq v.path path.now) volumes.now }
@@ -76,7 +74,7 @@ fn snap_at(
     label: &Option<Label>,
 ) -> Result<Reply, NoMemory>
     requires place { at < length volumes.old }
-    requires few { length volumes.old ≤ 32 }
+    requires few { length volumes.old ≤ MOST_VOLUMES }
     ensures ok { IfOk result (λ reply. ChangesOne volumes.old at (λ old new. IsSnapped (snap_test old name.now) at 0 name.now label.now old reply new) volumes.new) }
     ensures err { OnErr result (map volume_of volumes.new ≡ map volume_of volumes.old) }
 {
@@ -101,6 +99,7 @@ pub struct Node {
 
 impl Model for Node {
     ghost use Rattle.std.specs.Prelude.{map, length, [], ◌≤◌};
+    ghost use Rattle.sm_base.specs.declared.limits.TheConstants.{MOST_VOLUMES};
     ghost use Rattle.sm_defs.specs.World.{Up};
     ghost use Rattle.sm_lab.specs.Node.{volume_of};
 
@@ -108,7 +107,7 @@ impl Model for Node {
 
     ghost view = { λ n. record { clock = 0; next_relation = 1; next_transfer = 1; volumes = map volume_of n.volumes.items; policies = []; relations = []; disks = n.disks.items } };
 
-    ghost invariant = { λ n. length n.volumes.items ≤ 32 };
+    ghost invariant = { λ n. length n.volumes.items ≤ MOST_VOLUMES };
 }
 
 impl Node {
@@ -118,14 +117,14 @@ impl Node {
     {
         Ok(Node {
             volumes: Vec::new(alloc),
-            disks: vec![in alloc; DISK_LENGTH; 33]?,
+            disks: vec![in alloc; DISK_LENGTH; MOST_DISKS]?,
         })
     }
 
     /// How many volumes there are.
     pub fn count(&self) -> u32
         ensures count { result ≡ length self.now.volumes }
-        ensures few { result ≤ 32 }
+        ensures few { result ≤ MOST_VOLUMES }
     {
         self.volumes.len() as u32
     }
@@ -134,9 +133,16 @@ impl Node {
     pub fn snapshots(&self, volume: u32) -> u32
         requires { volume < length self.now.volumes }
         ensures count { result ≡ length (volume_at self.now volume).snapshots }
-        ensures few { result ≤ 255 }
+        ensures few { result ≤ MOST_SNAPSHOTS }
     {
         self.volumes[volume as usize].snapshots.len() as u32
+    }
+
+    /// The relationships: none is ever made here.
+    pub fn relations(&self) -> &[WorldRelation]
+        ensures { result.now ≡ self.now.relations }
+    {
+        &[]
     }
 
     /// The place of the first volume with this path.
@@ -166,16 +172,16 @@ impl Node {
 
     fn is_full(&self) -> bool
         ensures full { result ≡ (length self.now.volumes == MOST_VOLUMES) }
-        ensures room { result ≡ false → length self.now.volumes < 32 }
+        ensures room { result ≡ false → length self.now.volumes < MOST_VOLUMES }
     {
-        self.volumes.len() == 32
+        self.volumes.len() == MOST_VOLUMES
     }
 
     /// Whether a volume of this path, on this disk and with this many physical blocks may be made.
     #[tactic(auto, unfolding(sm_model::specs::Answers::and_then, sm_model::specs::Answers::refused_if, sm_model::specs::Answers::some_or))]
     fn may_create(&self, path: &Path, disk: DiskNo, physical: u32) -> Result<(), Refusal>
         ensures answer { result ≡ create_test self.now path.now disk physical }
-        ensures room { OnOk result (length self.now.volumes < 32) }
+        ensures room { OnOk result (length self.now.volumes < MOST_VOLUMES) }
     {
         if self.has_path(path) {
             return Err(Refusal::NameTaken);
@@ -194,7 +200,7 @@ impl Node {
                 what: What::Volumes,
             });
         }
-        let need = 25_726_976 + 4_096 * u64::from(physical);
+        let need = BLOCKS_START + 4_096 * u64::from(physical);
         if len < need {
             return Err(Refusal::DiskSmall { need, len });
         }
@@ -203,7 +209,7 @@ impl Node {
 
     /// Adds a volume behind the others. An `Err` leaves the node.
     fn add(&mut self, volume: Volume) -> Result<(), NoMemory>
-        requires { length self.old.volumes < 32 }
+        requires { length self.old.volumes < MOST_VOLUMES }
         ensures ok { OnOk result (self.new ≡ volumes.with_new_volume self.old (volume_of volume)) }
         ensures err { OnErr result (self.new ≡ self.old) }
     {
@@ -220,8 +226,8 @@ impl Node {
         logical: u32,
         physical: u32,
     ) -> Result<Reply, NoMemory>
-        requires blocks { logical ≤ 4096 }
-        requires places { physical ≤ 16384 }
+        requires blocks { logical ≤ MOST_LOGICAL }
+        requires places { physical ≤ MOST_PHYSICAL }
         ensures answered { IfOk result (λ reply. IsAnswered self.old (volumes.create_volume self.old path.now disk kind logical physical) reply self.new) }
         ensures err { OnErr result (self.new ≡ self.old) }
     {
@@ -282,12 +288,14 @@ impl Node {
     fn head(&self) -> Reply
         ensures { IsAnswered self.now (reports.head self.now) result self.now }
     {
-        Reply::Line(Line::Head {
-            volumes: self.volumes.len() as u32,
-            relationships: 0,
-            policies: 0,
-            clock: 0,
-        })
+        Reply::Line {
+            line: Line::Head {
+                volumes: self.volumes.len() as u32,
+                relationships: 0,
+                policies: 0,
+                clock: 0,
+            },
+        }
     }
 
     fn of_volume(&self, alloc: Global, volume: VolNo) -> Result<Reply, NoMemory>
@@ -295,7 +303,9 @@ impl Node {
         ensures { IfOk result (λ reply. IsAnswered self.now (reports.of_volume self.now volume) reply self.now) }
     {
         let v = &self.volumes[volume.0 as usize];
-        Ok(Reply::Line(volume_line(alloc, volume, v)?))
+        Ok(Reply::Line {
+            line: volume_line(alloc, volume, v)?,
+        })
     }
 
     fn of_image(&self, alloc: Global, volume: VolNo, place: Option<u32>) -> Result<Reply, NoMemory>
@@ -304,13 +314,15 @@ impl Node {
         ensures { IfOk result (λ reply. IsAnswered self.now (reports.of_image self.now volume place) reply self.now) }
     {
         let v = &self.volumes[volume.0 as usize];
-        Ok(Reply::Line(image_line(alloc, volume, v, place)?))
+        Ok(Reply::Line {
+            line: image_line(alloc, volume, v, place)?,
+        })
     }
 
     /// Does one event. An `Err` changes nothing.
     #[tactic(auto, unfolding(sm_model::specs::Answer::answer, sm_model::specs::InRange::IsGiven, sm_model::specs::InRange::IsThere))]
     pub fn act(&mut self, alloc: Global, event: &Event) -> Result<Reply, NoMemory>
-        requires early { IsEarly event.now }
+        requires served { IsServed event.now }
         requires given { IsGiven event.now }
         requires there { IsThere self.old event.now }
         ensures answered { IfOk result (λ reply. Answers self.old (answer self.old event.now) reply self.new) }
@@ -330,6 +342,7 @@ impl Node {
             Event::Head => Ok(self.head()),
             Event::VolumeLine { volume } => self.of_volume(alloc, *volume),
             Event::Digest { volume, place } => self.of_image(alloc, *volume, *place),
+            // No relationship stands, and no other event is served.
             _ => unreachable!(),
         }
     }

@@ -1,16 +1,31 @@
 ghost use Rattle.std.specs.Prelude.{◌≡◌, ◌≢◌, ◌++◌, ◌≤◌, [], IfOk, OnOk, OnErr, string_bytes};
 ghost use Rattle.sm_stream.specs.Causes.{Rose};
-ghost use Rattle.sm_model.specs.Text.{transcript};
+ghost use Rattle.sm_report.specs.Transcript.{printed_text, transcript};
 ghost use Rattle.sm_lab.specs.Output.{body, bad_text, kind_text, closing, IsFront, IsOutput, IsPrinted, Ends};
 
 use crate::status::Status;
 use sm_base::{Failed, NoMemory};
-use sm_model::{Entry, add_entry};
+use sm_model::Entry;
+use sm_report::entry_text;
 use sm_script::LineKind;
 use sm_stream::{Sink, write_whole};
 use std::alloc::Global;
 
-/// The texts of the entries. An `Err` leaves those of some first entries.
+/// Adds what the transcript has of an entry: its text, and nothing where a worker made it. An `Err` leaves the
+/// text.
+fn add_entry(alloc: Global, entry: &Entry, text: &mut Vec<u8>) -> Result<(), NoMemory>
+    ensures ok { OnOk result (text.new.items ≡ text.old.items ++ printed_text entry.now) }
+    ensures err { OnErr result (text.new.items ≡ text.old.items) }
+{
+    if entry.actor != 0 {
+        return Ok(());
+    }
+    let printed = entry_text(alloc, entry)?;
+    text.extend_from_slice(printed.as_bytes())?;
+    Ok(())
+}
+
+/// The transcript of the entries. An `Err` leaves that of some first entries.
 fn add_entries(alloc: Global, history: &[Entry], text: &mut Vec<u8>) -> Result<(), NoMemory>
     requires { text.old.items ≡ [] }
     ensures ok { OnOk result (text.new.items ≡ transcript history.now) }

@@ -1,5 +1,6 @@
 ghost use Rattle.std.specs.Prelude.{◌≡◌, ◌≢◌, ◌+◌, ◌≤◌, [], All, Ok, IfOk, IfErr, OnOk, OnErr, true, false};
 ghost use Rattle.std.specs.Io.KnownBytes.{IsAtEnd};
+ghost use Rattle.sm_base.specs.declared.limits.TheConstants.{LONGEST_SCRIPT};
 ghost use Rattle.sm_stream.specs.Causes.{Rose};
 ghost use Rattle.sm_stream.specs.Whole.{TookAtMost};
 ghost use Rattle.sm_model.specs.InRange.{IsGiven};
@@ -7,7 +8,7 @@ ghost use Rattle.sm_model.specs.Sound.{SoundUp};
 ghost use Rattle.sm_script.specs.Grammar.{IsCommand};
 ghost use Rattle.sm_lab.specs.History.{IsLegal, IsWholeRun, IsPartRun, EachWorld, EachDeed, ShowsOrigins, DropsAsNamed, KeepsNeeded};
 ghost use Rattle.sm_lab.specs.Output.{IsWritten};
-ghost use Rattle.sm_lab.specs.Status.{takes, longest_script, Gave, IsCaused, IsDue, IsRun, HasHistory};
+ghost use Rattle.sm_lab.specs.Status.{takes, Gave, IsCaused, IsDue, IsRun, HasHistory};
 
 use crate::history::{run_commands, run_report};
 use crate::node::Node;
@@ -15,13 +16,11 @@ use crate::output::print;
 use crate::report::report_of;
 use crate::status::Status;
 use sm_base::NoMemory;
+use sm_base::limits::LONGEST_SCRIPT;
 use sm_model::Entry;
 use sm_script::{Command, Script, ScriptFault, read_script};
 use sm_stream::{ReadFault, Sink, Source, read_whole};
 use std::alloc::Global;
-
-/// The greatest length of a script, in bytes.
-const LONGEST_SCRIPT: usize = 16_777_216;
 
 /// The commands of the script, or how the call ends without them.
 fn read_commands<S: Source>(alloc: Global, script: &mut S) -> Result<Script, Status>
@@ -30,7 +29,7 @@ fn read_commands<S: Source>(alloc: Global, script: &mut S) -> Result<Script, Sta
     ensures given { IfOk result (λ commands. All (λ c. IsGiven c.event) commands) }
     ensures err { IfErr result (λ status. IsRun true (S.left script.old) (S.left script.new)
         (Rose (S.fault_count script.old) (S.fault_count script.new)) [] status) }
-    ensures taken { TookAtMost (longest_script + 1) (S.left script.old) (S.left script.new) }
+    ensures taken { TookAtMost (LONGEST_SCRIPT + 1) (S.left script.old) (S.left script.new) }
     ensures later { S.fault_count script.old ≤ S.fault_count script.new }
 {
     let text = match read_whole(alloc, script, LONGEST_SCRIPT) {
@@ -66,7 +65,7 @@ fn run_script<S: Source>(alloc: Global, script: &mut S, history: &mut Vec<Entry>
     requires { history.old.items ≡ [] }
     ensures run { IsRun true (S.left script.old) (S.left script.new)
         (Rose (S.fault_count script.old) (S.fault_count script.new)) history.new.items result }
-    ensures taken { TookAtMost (longest_script + 1) (S.left script.old) (S.left script.new) }
+    ensures taken { TookAtMost (LONGEST_SCRIPT + 1) (S.left script.old) (S.left script.new) }
     ensures later { S.fault_count script.old ≤ S.fault_count script.new }
 {
     match read_commands(alloc, script) {
@@ -100,7 +99,7 @@ fn decide<S: Source>(
     ensures run { IsRun (takes words.now) (S.left script.old) (S.left script.new)
         (Rose (S.fault_count script.old) (S.fault_count script.new)) history.new.items result }
     ensures untouched { takes words.now ≡ false → script.new ≡ script.old }
-    ensures taken { TookAtMost (longest_script + 1) (S.left script.old) (S.left script.new) }
+    ensures taken { TookAtMost (LONGEST_SCRIPT + 1) (S.left script.old) (S.left script.new) }
     ensures later { S.fault_count script.old ≤ S.fault_count script.new }
 {
     if !takes(words) {
@@ -130,7 +129,7 @@ pub fn run_lab<S: Source, W: Sink>(
     // The source is not touched for words that are no line of the command; else at most one byte is
     // taken more than a script may have, and wherever an event ran, all of the script.
     ensures untouched { takes words.items ≡ false → script.new ≡ script.old }
-    ensures taken { TookAtMost (longest_script + 1) (S.left script.old) (S.left script.new) }
+    ensures taken { TookAtMost (LONGEST_SCRIPT + 1) (S.left script.old) (S.left script.new) }
     ensures at_end { result.1.items ≢ [] → IsAtEnd (S.left script.new) }
 
     // The counts of failures never fall.

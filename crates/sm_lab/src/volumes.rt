@@ -2,7 +2,7 @@ ghost use Rattle.std.specs.Prelude.{◌≡◌, false, ◌<◌, ◌≤◌, ◌+�
 ghost use Rattle.std.specs.List.{list_any, find};
 ghost use Rattle.std.specs.Option.{option_copied};
 ghost use Rattle.std.specs.Str.{bytes_eq};
-ghost use Rattle.sm_base.specs.declared.limits.TheConstants.{MOST_SNAPSHOTS, LAST_NUMBER};
+ghost use Rattle.sm_base.specs.declared.limits.TheConstants.{MOST_SNAPSHOTS, MOST_LOGICAL, MOST_PHYSICAL, LAST_NUMBER};
 ghost use Rattle.sm_defs.specs.Image.{hole, full_block};
 ghost use Rattle.sm_defs.specs.Volume.{new_volume, used, is_rw};
 ghost use Rattle.sm_model.specs.OfReport.{digest, digest_line, snapshot_at, snapshot_line as line_of_snapshot, volume_line as line_of_volume};
@@ -16,6 +16,7 @@ use crate::slot::{Slot, Snapshot};
 use crate::uses::{claim_snapshot, free_number, move_place, used_of};
 use crate::volume::Volume;
 use sha2::{Digest, Sha256};
+use sm_base::limits::{LAST_NUMBER, MOST_SNAPSHOTS};
 use sm_base::{Block, DiskNo, Ident, Kind, Label, NoMemory, Path, Refusal, SnapName, VolNo};
 use sm_model::{Line, Reply, copy_label};
 use std::alloc::Global;
@@ -46,8 +47,8 @@ pub fn make_volume(
     logical: u32,
     physical: u32,
 ) -> Result<Volume, NoMemory>
-    requires blocks { logical ≤ 4096 }
-    requires places { physical ≤ 16384 }
+    requires blocks { logical ≤ MOST_LOGICAL }
+    requires places { physical ≤ MOST_PHYSICAL }
     ensures { IfOk result (λ v. volume_of v ≡ new_volume path.now disk.0 kind number logical physical) }
 {
     Ok(Volume {
@@ -148,18 +149,18 @@ fn is_taken(v: &Volume, name: &[u8]) -> bool
 /// Whether the volume has its full number of snapshots, or its numbers ran out.
 fn is_full(v: &Volume) -> bool
     ensures full { result ≡ ((length (volume_of v.now).snapshots == MOST_SNAPSHOTS) || (v.now.next == LAST_NUMBER)) }
-    ensures room { result ≡ false → vec_len v.now.snapshots < 255 }
-    ensures number { result ≡ false → v.now.next < 2 ^ 62 }
+    ensures room { result ≡ false → vec_len v.now.snapshots < MOST_SNAPSHOTS }
+    ensures number { result ≡ false → v.now.next < LAST_NUMBER }
 {
-    v.snapshots.len() == 255 || v.next == 1 << 62
+    v.snapshots.len() == MOST_SNAPSHOTS || v.next == LAST_NUMBER
 }
 
 /// Whether a client may take a snapshot of the name.
 #[tactic(auto, unfolding(sm_model::specs::Answers::and_then, sm_model::specs::Answers::refused_if))]
 fn may_snap(v: &Volume, name: &SnapName) -> Result<(), Refusal>
     ensures answer { result ≡ snap_test (volume_of v.now) name.now }
-    ensures room { OnOk result (vec_len v.now.snapshots < 255) }
-    ensures number { OnOk result (v.now.next < 2 ^ 62) }
+    ensures room { OnOk result (vec_len v.now.snapshots < MOST_SNAPSHOTS) }
+    ensures number { OnOk result (v.now.next < LAST_NUMBER) }
 {
     if !is_writable(v.kind) {
         return Err(Refusal::ReadOnly);
@@ -182,8 +183,8 @@ fn take_snapshot(
     name: SnapName,
     label: Option<Label>,
 ) -> Result<(), NoMemory>
-    requires room { vec_len v.old.snapshots < 255 }
-    requires next { v.old.next < 2 ^ 62 }
+    requires room { vec_len v.old.snapshots < MOST_SNAPSHOTS }
+    requires next { v.old.next < LAST_NUMBER }
     ensures ok { OnOk result (volume_of v.new ≡ snapped number time (volume_of v.old) name label) }
     ensures err { OnErr result (volume_of v.new ≡ volume_of v.old) }
 {
@@ -215,8 +216,8 @@ fn snap_one(
     name: SnapName,
     label: Option<Label>,
 ) -> Result<Reply, NoMemory>
-    requires room { vec_len v.old.snapshots < 255 }
-    requires next { v.old.next < 2 ^ 62 }
+    requires room { vec_len v.old.snapshots < MOST_SNAPSHOTS }
+    requires next { v.old.next < LAST_NUMBER }
     ensures reply { IfOk result (λ reply. reply ≡ replies.Snapped (client_ident number (volume_of v.old))) }
     ensures ok { OnOk result (volume_of v.new ≡ snapped number 0 (volume_of v.old) name label) }
     ensures err { OnErr result (volume_of v.new ≡ volume_of v.old) }

@@ -29,6 +29,4 @@ pub mod FamiliesStand
 pub mod LegsKept
 pub mod TransfersStand
 pub mod Sound
-pub mod Texts
-pub mod RefusalText
-pub mod Text
+pub mod Telling

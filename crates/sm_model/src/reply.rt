@@ -157,8 +157,14 @@ pub enum Reply {
     Bytes {
         block: Box<Block>,
     },
-    Line(Line),
-    Table(Lines),
+    /// A line of the report.
+    Line {
+        line: Line,
+    },
+    /// A table with its lines.
+    Table {
+        lines: Lines,
+    },
     /// The destination went back to its base and let so many snapshots go.
     Reverted {
         relation: RelNo,

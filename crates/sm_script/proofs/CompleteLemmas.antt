@@ -3,6 +3,7 @@ use Rattle.std.proofs.Common.{◌≡◌, ◌≢◌, ℕ, ◌≤◌, ◌&&◌, tr
 use Rattle.std.proofs.lemmas.Bool.{and_from}
 use borrow.Author.Tests.{lt-ltb, le-leb, eq-eqb, ne_eqb}
 use Rattle.sm_base.specs.Name.{is_path, is_snapshot_name}
+use Rattle.sm_base.specs.declared.limits.TheConstants.{MOST_LOGICAL, MOST_PHYSICAL}
 use Rattle.sm_base.specs.declared.numbers.DiskNo.{DiskNo}
 use Rattle.sm_base.specs.declared.numbers.Kind.{Kind}
 use Rattle.sm_model.specs.declared.event.Event as the_event
@@ -44,8 +45,8 @@ create_given : (line path : List ℕ) (disk : DiskNo) (kind : Kind) (logical phy
 unfolding create_command
 create_given line path disk kind logical physical s =
     let t : CreateTexts = record { path = path; blocks = s.blocks_text; physical = s.physical_text } in
-    let a = path_given path s.good_path in let b = within_given 1 4096 s.blocks_text logical s.blocks s.some_blocks s.few_blocks in
-    let c = within_given logical 16384 s.physical_text physical s.physicals s.enough s.few_physicals in
+    let a = path_given path s.good_path in let b = within_given 1 MOST_LOGICAL s.blocks_text logical s.blocks s.some_blocks s.few_blocks in
+    let c = within_given logical MOST_PHYSICAL s.physical_text physical s.physicals s.enough s.few_physicals in
     let e : create_event t ≡ Some (events.CreateVolume path disk kind logical physical) = rw (s.first_disk, s.writable, a, b, c) refl in
     ap (λ v. create_texts v >>= create_event) (create_line line path disk kind logical physical s) ∙ e
 

@@ -4,6 +4,7 @@ use Rattle.std.specs.List.{starts_with}
 use Rattle.std.proofs.lemmas.List.Splits.{join_with_byte-slice_split}
 use borrow.Author.Tests.{eqb-true, eqb-false}
 use Rattle.sm_base.specs.Name.{is_path, is_snapshot_name}
+use Rattle.sm_base.specs.declared.limits.TheConstants.{MOST_LOGICAL, MOST_PHYSICAL}
 use Rattle.sm_base.specs.declared.numbers.Kind.TheVariants.{Rw}
 use Rattle.sm_model.specs.declared.event.Event as the_event
 use Rattle.sm_model.specs.declared.event.Event.TheVariants as events
@@ -24,7 +25,7 @@ create_sound n line event first e =
     let t = bound (create_texts (words_of line)) create_event event e in
     let p = bound _ _ _ t.2 in let k = bound _ _ _ p.2 in let m = bound _ _ _ k.2 in
     let path = chosen (is_path t.0.path) t.0.path p.0 p.1 in
-    let b = within_taken 1 4096 t.0.blocks k.0 k.1 in let c = within_taken k.0 16384 t.0.physical m.0 m.1 in
+    let b = within_taken 1 MOST_LOGICAL t.0.blocks k.0 k.1 in let c = within_taken k.0 MOST_PHYSICAL t.0.physical m.0 m.1 in
     let is : events.CreateVolume t.0.path (record { 0 = 1 }) Rw k.0 m.0 ≡ event = ap (λ v. events.CreateVolume v (record { 0 = 1 }) Rw k.0 m.0) path.1 ∙ same_value m.2 in
     let P : the_event.Event → Type 0 = λ v. Spells n line v in
     subst P is (

@@ -2,6 +2,7 @@
 use Rattle.std.specs.Prelude.{ℕ, ◌==◌, if◌then◌else◌, List, Option, Some, None, is_none, codes, nat_eq}
 use Rattle.std.specs.List.{starts_with}
 use Rattle.sm_base.specs.Name.{is_path, is_snapshot_name}
+use Rattle.sm_base.specs.declared.limits.TheConstants.{MOST_LOGICAL, MOST_PHYSICAL}
 use Rattle.sm_base.specs.declared.numbers.Kind.TheVariants.{Rw}
 use Rattle.sm_model.specs.declared.event.Event as the_event
 use Rattle.sm_model.specs.declared.event.Event.TheVariants as events
@@ -48,12 +49,12 @@ create_texts words = do
   physical ← value_behind (codes "-physical") blocks.1
   at_end physical.1 (record { path = path.0; blocks = blocks.0; physical = physical.0 })
 
--- a volume has 1 to 4,096 blocks, and at least as many physical ones, up to 16,384
+-- a volume has at least one block, and at least as many physical ones
 abbrev pub create_event : CreateTexts → Option the_event.Event
 create_event t = do
   path ← path_of t.path
-  n ← number_within 1 4096 t.blocks
-  m ← number_within n 16384 t.physical
+  n ← number_within 1 MOST_LOGICAL t.blocks
+  m ← number_within n MOST_PHYSICAL t.physical
   Some (events.CreateVolume path (record { 0 = 1 }) Rw n m)
 
 -- what `client write` leaves open

@@ -2,6 +2,7 @@
 use Rattle.std.specs.Prelude.{◌≡◌, ◌≢◌, ◌⊎◌, ℕ, ◌+◌, ◌<◌, ◌≤◌, true, false, List, [], ◌∷◌, length, Some, None, codes, nat_eq}
 use Rattle.std.specs.List.{join_with_byte, starts_with}
 use Rattle.sm_base.specs.Name.{is_path, is_snapshot_name}
+use Rattle.sm_base.specs.declared.limits.TheConstants.{MOST_LOGICAL, MOST_PHYSICAL}
 use Rattle.sm_base.specs.declared.numbers.DiskNo.{DiskNo}
 use Rattle.sm_base.specs.declared.numbers.Kind.{Kind}
 use Rattle.sm_base.specs.declared.numbers.Kind.TheVariants.{Rw}
@@ -34,9 +35,9 @@ pub record SpellsCreate (line path : List ℕ) (disk : DiskNo) (kind : Kind) (lo
   pub blocks : SpellsNumber blocks_text logical
   pub physicals : SpellsNumber physical_text physical
   pub some_blocks : 1 ≤ logical
-  pub few_blocks : logical ≤ 4096
+  pub few_blocks : logical ≤ MOST_LOGICAL
   pub enough : logical ≤ physical
-  pub few_physicals : physical ≤ 16384
+  pub few_physicals : physical ≤ MOST_PHYSICAL
 
 pub record SpellsWrite (line path : List ℕ) (block fill : ℕ) : Type 0 where
   pub block_text : List ℕ

@@ -6,6 +6,7 @@ ghost use Rattle.sm_script.specs.Words.{words_of};
 use crate::names::read_path;
 use crate::number::read_within;
 use crate::words::Words;
+use sm_base::limits::{MOST_LOGICAL, MOST_PHYSICAL};
 use sm_base::{DiskNo, Kind, NoMemory};
 use sm_model::Event;
 use std::alloc::Global;
@@ -43,10 +44,10 @@ fn create_event(alloc: Global, words: CreateWords<'_>) -> Result<Option<Event>, 
     let Some(path) = read_path(alloc, words.path)? else {
         return Ok(None);
     };
-    let Some(logical) = read_within(1, 4096, words.blocks) else {
+    let Some(logical) = read_within(1, MOST_LOGICAL, words.blocks) else {
         return Ok(None);
     };
-    let Some(physical) = read_within(logical, 16_384, words.physical) else {
+    let Some(physical) = read_within(logical, MOST_PHYSICAL, words.physical) else {
         return Ok(None);
     };
     Ok(Some(Event::CreateVolume {

@@ -1,5 +1,0 @@
-use Rattle.std.proofs.Common.{length}
-use Rattle.sm_model.proofs.reply_text.+lines_of_table.Given as goal
-
-abbrev pub decreases-lines_of_table : goal.decreases-lines_of_table
-decreases-lines_of_table l = length l.lines.now

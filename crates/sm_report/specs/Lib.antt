@@ -1,0 +1,4 @@
+pub mod Texts
+pub mod RefusalText
+pub mod Text
+pub mod Transcript
