@@ -1,1 +1,7 @@
 pub mod Bridges
+pub mod Members
+pub mod Idents
+pub mod Thinned
+pub mod Keys
+pub mod Searches
+pub mod Numbers
