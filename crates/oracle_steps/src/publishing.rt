@@ -5,10 +5,11 @@ ghost use Rattle.sm_defs.specs.Volume.{idents};
 ghost use Rattle.sm_defs.specs.Needed.{needed};
 ghost use Rattle.sm_defs.specs.Retention.{retained};
 ghost use Rattle.sm_defs.specs.Operations.{with_snapshot};
-ghost use Rattle.sm_model.specs.Steps.{made_name, prepared_snapshot, is_elsewhere, family_published, arrived, list_published, published};
+ghost use Rattle.sm_model.specs.Steps.{prepared_snapshot, is_elsewhere, family_published, arrived, list_published, published};
 ghost use Rattle.sm_model.specs.Due.{prepare_reason, prepare_effect, publish_effect, is_tidied, tidy_due, tidy_effect};
 ghost use Rattle.oracle_steps.specs.Changes.{IsChange, reason_of_count};
 ghost use Rattle.oracle_steps.specs.Seen.{running_of};
+ghost use Rattle.sm_defs.specs.Made.{made_name};
 
 use crate::change::{PlainChange, PlainPlaced};
 use crate::progress::interrupt;

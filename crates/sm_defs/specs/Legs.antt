@@ -4,8 +4,7 @@ use Rattle.std.specs.List.{filter}
 use Rattle.sm_base.specs.declared.numbers.Ident.{Ident}
 use Rattle.sm_base.specs.declared.numbers.Kind.{Kind}
 use Rattle.sm_base.specs.declared.numbers.Kind.TheVariants.{Rw, Dp}
-use Rattle.sm_defs.specs.Words.{same_ident, after}
-use Rattle.sm_defs.specs.Volume.{Snapshot, idents, has}
+use Rattle.sm_defs.specs.Volume.{Snapshot, idents, has, past}
 use Rattle.sm_defs.specs.Relationship.{Policy, Rule, is_mirror, sends_all, rule_for}
 
 -- oldest first; where reserved, the last is still to be made
@@ -22,7 +21,7 @@ pub record Source : Type 0 where
 -- nothing stands after a base that the list lacks
 abbrev pub after_base : Option Ident → List Snapshot → List Snapshot
 after_base None ss = ss
-after_base (Some base) ss = after (λ s. same_ident s.ident base) ss
+after_base (Some base) ss = past base ss
 
 -- the source's snapshots after the base that the destination does not have
 abbrev pub candidates : Option Ident → List Snapshot → List Snapshot → List Snapshot
