@@ -6,10 +6,10 @@ use Rattle.sm_model.specs.declared.reply.Entry.{Entry}
 use Rattle.sm_model.specs.World.{World, up, Deed}
 use Rattle.sm_model.specs.LegalRun.{Run}
 use Rattle.sm_model.specs.Sound.{SoundUp, Sound}
-use Rattle.laws_steps.specs.Needs.{KeepsNeeded}
-use Rattle.laws_steps.specs.Runs.{WasGoing, known_world}
-use Rattle.laws_steps.proofs.Soundly.{entries_keep_sound}
-use Rattle.laws_steps.proofs.EntryDrops.{entries_go_on, entries_drop_named, entries_keep_needed}
+use Rattle.laws_cases.specs.Needs.{KeepsNeeded}
+use Rattle.laws_drops.specs.Runs.{WasGoing, known_world}
+use Rattle.laws_sound.proofs.Soundly.{entries_keep_sound}
+use Rattle.laws_drops.proofs.EntryDrops.{entries_go_on, entries_drop_named, entries_keep_needed}
 use Rattle.laws_run.specs.Worlds.{AllEntries, DropsByRule}
 
 drop : (old new : World) (es : List Entry) (sides : List Side) (deeds : List Deed) (r : Run old es sides deeds new) → Sound old → WasGoing old → AllEntries DropsByRule old es sides deeds new r

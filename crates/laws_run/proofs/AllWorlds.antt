@@ -10,7 +10,7 @@ use Rattle.sm_model.specs.World.{World, up, down, Deed}
 use Rattle.sm_model.specs.Crossed.{IsReservedLeg}
 use Rattle.sm_model.specs.LegalRun.{Run}
 use Rattle.sm_model.specs.Sound.{SoundUp, Sound}
-use Rattle.laws_steps.proofs.Soundly.{entries_keep_sound}
+use Rattle.laws_sound.proofs.Soundly.{entries_keep_sound}
 use Rattle.laws_run.specs.Worlds.{AllWorlds, OfBoth, LegStands, BasesAndLegsStand}
 
 pub worlds_are_sound : (before : List Deed) (old new : World) (es : List Entry) (sides : List Side) (deeds : List Deed) (r : Run old es sides deeds new) → Sound old →

@@ -5,8 +5,8 @@ use Rattle.sm_model.specs.declared.reply.Entry.{Entry}
 use Rattle.sm_model.specs.World.{World, Deed}
 use Rattle.sm_model.specs.LegalRun.{Fits, done, quiet, failed, down_still, restart_up, restart_before, restart_after, restart_failed_up, restart_failed, Run}
 use Rattle.sm_model.specs.Sound.{SoundUp, Sound}
-use Rattle.laws_steps.specs.Contents.{BeginSound}
-use Rattle.laws_steps.proofs.Soundly.{entries_keep_sound}
+use Rattle.laws_contents.specs.Contents.{BeginSound}
+use Rattle.laws_sound.proofs.Soundly.{entries_keep_sound}
 use Rattle.laws_run.proofs.Entries.{all_joined}
 
 pub run_keeps : (old new : World) (es : List Entry) (sides : List Side) (ds : List Deed) → Run old es sides ds new → Sound old → Sound new

@@ -14,8 +14,8 @@ use Rattle.sm_model.specs.Steps.{Effect}
 use Rattle.sm_model.specs.Due.{IsIdle}
 use Rattle.sm_model.specs.Choice.{chosen}
 use Rattle.sm_model.specs.LegalRun.{IsChosen, IsQuiet, IsRestart, Fits, done, quiet, failed, down_still, restart_up, restart_before, restart_after, restart_failed_up, restart_failed, Run}
-use Rattle.laws_steps.proofs.Choosing.{chosen_is_due}
-use Rattle.laws_steps.proofs.Contents.{each_left}
+use Rattle.laws_idle.proofs.Choosing.{chosen_is_due}
+use Rattle.laws_contents.proofs.Contents.{each_left}
 use Rattle.laws_run.specs.Early.{IsDecided, IsFaultless, AllFaultless, AllChosen}
 use Rattle.laws_run.proofs.Determined.{Follows, follows, text_after, world_after, sides_after, same_head, same_tail, prints_line}
 

@@ -13,8 +13,8 @@ use Rattle.sm_model.specs.InRange.{IsGiven}
 use Rattle.sm_model.specs.World.{Deed}
 use Rattle.sm_model.specs.LegalRun.{IsDone, IsDeed}
 use Rattle.sm_model.specs.Sound.{SoundUp}
-use Rattle.laws_steps.proofs.Choosing.{chosen_is_due}
-use Rattle.laws_steps.proofs.Soundly.{deeds_keep_sound}
+use Rattle.laws_idle.proofs.Choosing.{chosen_is_due}
+use Rattle.laws_sound.proofs.Soundly.{deeds_keep_sound}
 
 abbrev pub reached_by : Up → Up → Told → Up
 reached_by w u (told reply) = u

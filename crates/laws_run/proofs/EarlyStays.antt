@@ -7,16 +7,16 @@ use Rattle.sm_model.specs.InRange.{IsGiven}
 use Rattle.sm_model.specs.World.{Deed}
 use Rattle.sm_model.specs.LegalRun.{IsDeed}
 use Rattle.sm_model.specs.Sound.{SoundUp}
-use Rattle.laws_steps.proofs.Walk.{past, with_found, with_ok, now}
-use Rattle.laws_steps.proofs.OfAnswer.{OfAnswer}
-use Rattle.laws_steps.proofs.DropsOfEvents.{done_gives}
-use Rattle.laws_steps.proofs.TagsStay as tags
-use Rattle.laws_steps.proofs.CopiesStay.{deeds_keep_copies}
-use Rattle.laws_steps.proofs.NumbersStay.{deeds_keep_numbers}
-use Rattle.laws_steps.proofs.FamiliesStay.{deeds_keep_given}
-use Rattle.laws_steps.proofs.FamiliesSteps.{deeds_keep_families}
-use Rattle.laws_steps.proofs.DestinationsStay.{deeds_keep_destinations}
-use Rattle.laws_steps.proofs.FormedSteps.{deeds_keep_form}
+use Rattle.laws_cases.proofs.Answers.Walk.{past, with_found, with_ok, now}
+use Rattle.laws_cases.proofs.Answers.OfAnswer.{OfAnswer}
+use Rattle.laws_cases.proofs.Answers.Deeds.{done_gives}
+use Rattle.laws_copies.proofs.TagsStay as tags
+use Rattle.laws_copies.proofs.CopiesStay.{deeds_keep_copies}
+use Rattle.laws_copies.proofs.NumbersStay.{deeds_keep_numbers}
+use Rattle.laws_families.proofs.FamiliesStay.{deeds_keep_given}
+use Rattle.laws_families.proofs.FamiliesSteps.{deeds_keep_families}
+use Rattle.laws_destinations.proofs.DestinationsStay.{deeds_keep_destinations}
+use Rattle.laws_form.proofs.FormedSteps.{deeds_keep_form}
 use Rattle.laws_run.specs.Early.{IsEarly, creates, writes, snaps, reads, heads, lists, digests, IsBare}
 use Rattle.laws_run.proofs.Entries.{deed_done}
 use Rattle.laws_run.proofs.Bare.{sound_if_bare}

@@ -17,7 +17,7 @@ use Rattle.sm_model.specs.LegalRun.{Counts, Rises, FaultsRise}
 use Rattle.laws_run.specs.Early.{IsEarly, creates, writes, snaps, reads, heads, lists, digests, IsFaultless, AllFaultless}
 use Rattle.laws_run.specs.Listed.{IsListed, IsTooSmall, LacksName}
 use Rattle.laws_transfer.proofs.Asc.{among_each}
-use Rattle.laws_steps.proofs.Deeds.{ok_is_no_refusal}
+use Rattle.laws_cases.proofs.Answers.Deeds.{ok_is_no_refusal}
 use Rattle.laws_run.proofs.Listing.{refusal_listed}
 
 -- ---- answers

@@ -14,7 +14,7 @@ use Rattle.sm_model.specs.World.{World, Deed}
 use Rattle.sm_model.specs.LegalRun.{IsRefused, IsQuiet, Fits, done, quiet, failed, down_still, restart_up, restart_before, restart_after, restart_failed_up, restart_failed}
 use Rattle.laws_run.specs.Early.{IsFaultless}
 use Rattle.laws_run.specs.Listed.{IsListed}
-use Rattle.laws_steps.proofs.Deeds.{deeds_are_no_refusals}
+use Rattle.laws_cases.proofs.Answers.Deeds.{deeds_are_no_refusals}
 use Rattle.laws_run.proofs.Listing.{refusal_listed}
 
 same_refusal : (r s : Refusal) → replies.Refused r ≡ replies.Refused s → r ≡ s

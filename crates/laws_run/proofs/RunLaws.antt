@@ -11,10 +11,10 @@ use Rattle.sm_model.specs.Drops.{Drops, NamedFor}
 use Rattle.sm_model.specs.LegalRun.{Run}
 use Rattle.sm_model.specs.Sound.{SoundUp, Sound}
 use Rattle.laws_transfer.proofs.Asc.{among_each}
-use Rattle.laws_steps.proofs.Soundly.{entries_keep_sound}
-use Rattle.laws_steps.proofs.Along.{along_deed, along_start}
-use Rattle.laws_steps.proofs.Contents.{Ready, made_once, of_entry}
-use Rattle.laws_steps.proofs.Runs.{runs_drop_named}
+use Rattle.laws_sound.proofs.Soundly.{entries_keep_sound}
+use Rattle.laws_contents.proofs.Along.{along_deed, along_start}
+use Rattle.laws_contents.proofs.Contents.{Ready, made_once, of_entry}
+use Rattle.laws_drops.proofs.Runs.{runs_drop_named}
 use Rattle.laws_run.specs.Worlds.{AllWorlds, OriginsStand}
 use Rattle.laws_run.proofs.AnyRuns.{entry_begins, run_begins}
 

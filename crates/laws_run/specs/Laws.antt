@@ -18,7 +18,7 @@ use Rattle.sm_model.specs.LegalRun.{Fits, Run}
 use Rattle.sm_model.specs.Sound.{SoundUp, Sound}
 use Rattle.sm_model.specs.Asked.{asked_of}
 use Rattle.sm_model.specs.Text.{transcript}
-use Rattle.laws_steps.specs.Contents.{BeginSound}
+use Rattle.laws_contents.specs.Contents.{BeginSound}
 use Rattle.laws_run.specs.Early.{AllDecided, AllChosen, AllFaultless, IsFaultless}
 use Rattle.laws_run.specs.Listed.{IsListed}
 

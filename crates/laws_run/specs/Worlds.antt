@@ -14,9 +14,9 @@ use Rattle.sm_model.specs.Origin.{makes, origin}
 use Rattle.sm_model.specs.Drops.{Drops, NamedFor}
 use Rattle.sm_model.specs.LegalRun.{Run}
 use Rattle.sm_model.specs.Sound.{SoundUp, Sound}
-use Rattle.laws_steps.specs.Needs.{KeepsNeeded}
-use Rattle.laws_steps.specs.Contents.{AllHaveOrigins}
-use Rattle.laws_steps.specs.Runs.{known_world, Loses, NamedForSome}
+use Rattle.laws_cases.specs.Needs.{KeepsNeeded}
+use Rattle.laws_contents.specs.Contents.{AllHaveOrigins}
+use Rattle.laws_drops.specs.Runs.{known_world, Loses, NamedForSome}
 
 -- P of each world that the run goes through, with the deeds before it: the first, those between entries, the last
 abbrev pub AllWorlds : (List Deed → World → Type 0) → List Deed → (old : World) (es : List Entry) (sides : List Side) (deeds : List Deed) (new : World) → Run old es sides deeds new → Type 0

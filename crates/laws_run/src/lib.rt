@@ -1,78 +1,12 @@
-//! Laws of the definitions: what holds of every answer, every step and every legal run.
+//! Laws of whole legal runs, from any sound world, whatever is asked and whatever fails: each world is sound,
+//! copies have what their origins held, what goes is what the rules name, and the text is determined.
 //!
-//! Each law is what a function without code ensures. The crate has no other code; its lemmas in
-//! `proofs/` are for the crates above. Laws of what a transfer rests on stand in `laws_transfer`, and laws
-//! of answers, steps, deeds and runs over all events in `laws_steps`; both are handed on here. That runs
-//! stay sound holds of all events, faults and restarts.
+//! Each law is what a function without code ensures.
 #![tactic(auto)]
 
 ghost use Rattle.laws_run.specs.Laws.{EmptyWorldIsSound, RunsKeepSoundness, EachWorldIsSound, DeedsBeginSound, TextIsDetermined, ChosenTextIsDetermined, RefusalsAreListed, EntriesAreRefusedAsListed, FirstVolumeIsMade};
 ghost use Rattle.laws_run.specs.Examples.{TransfersRun};
 ghost use Rattle.laws_run.specs.Worlds.{WorldsAreSound, WorldsHaveOrigins, RunsEndWithOrigins, RunsMakeOnce, RunsDropByRule, EntriesDropByRule, NoneNeededGoes, WorldsHaveBases};
-
-// Refusals leave the world, and nothing else is told as one.
-pub use laws_steps::{
-    deeds_are_no_refusals, ok_is_no_refusal, refusals_leave_the_world, steps_are_no_refusals,
-};
-
-// Tables and the report leave the world, and so does opening a world again.
-pub use laws_steps::{opening_again_changes_nothing, showing_leaves_the_world};
-
-// The step that this program chooses is due, and none is found exactly where none is due.
-pub use laws_steps::{
-    chosen_is_due, deeds_keep_ends, idle_is_exact, restarts_keep_ends, running_transfers_have_steps,
-};
-
-// What is needed stays, and what goes is what the rules name.
-pub use laws_steps::{
-    answers_drop_what_is_named, answers_keep_the_needed, deeds_keep_the_needed, drops_are_named,
-    entries_drop_what_is_named, entries_go_on, entries_keep_the_needed, no_deed_keeps_snapshots,
-    restarts_keep_snapshots, runs_do_deeds, runs_drop_what_is_named, runs_keep_the_needed,
-    steps_keep_the_needed,
-};
-
-// Parts of soundness that are kept.
-pub use laws_steps::{
-    answers_keep_copies, answers_keep_destinations, answers_keep_families, answers_keep_form,
-    answers_keep_tags, deeds_keep_copies, deeds_keep_destinations, deeds_keep_families,
-    deeds_keep_family_numbers, deeds_keep_form, deeds_keep_numbers, deeds_keep_tags,
-    deeds_keep_transfers, restarts_keep_copies, restarts_keep_destinations, restarts_keep_families,
-    restarts_keep_family_numbers, restarts_keep_form, restarts_keep_numbers, restarts_keep_tags,
-    restarts_keep_transfers, steps_keep_copies, steps_keep_crossed, steps_keep_tags,
-};
-
-// A sound world stays sound.
-pub use laws_steps::{
-    answers_keep_fit, deeds_keep_all_families, deeds_keep_crossed, deeds_keep_fit, deeds_keep_legs,
-    deeds_keep_sound, entries_keep_sound, restarts_keep_all_families, restarts_keep_crossed,
-    restarts_keep_fit, restarts_keep_legs, restarts_keep_sound,
-};
-
-// Each snapshot has the contents that its origin held.
-pub use laws_steps::{
-    contents_are_the_origins, deeds_are_traced, identities_are_made_once, origins_stay,
-};
-
-// What a leg costs, and what lands of it.
-pub use laws_transfer::{
-    free_numbers_ascend, landing_has_the_legs_bytes, landing_overwrites_nothing,
-    landing_rests_on_maps, mirror_costs_nothing, missing_blocks_take_numbers_in_order,
-    missing_places_are_these, missing_tags_are_determined, missing_tags_are_these,
-    vault_costs_nothing,
-};
-
-// What retention and pruning keep, and what is needed on both sides.
-pub use laws_transfer::{
-    bases_are_needed, keep_reached_names_the_first, legs_are_needed, pruning_drops_exactly,
-    pruning_thins, retention_begins_at_the_newest, retention_keeps_by_reason,
-    retention_keeps_the_needed, retention_keeps_the_newest, retention_thins, rules_keep_no_more,
-};
-
-// Which snapshot is common, and which are sent.
-pub use laws_transfer::{
-    common_is_the_newest, legs_are_new, mirrors_of_all_send_all, nothing_is_common,
-    reserved_for_writable_sources, vaults_send_by_rule,
-};
 
 /// The world in which nothing was created is sound.
 pub fn empty_world_is_sound()

@@ -6,7 +6,7 @@ use Rattle.sm_defs.specs.World.{Up}
 use Rattle.sm_defs.specs.Needed.{needed}
 use Rattle.sm_model.specs.World.{up}
 use Rattle.sm_model.specs.Sound.{SoundUp}
-use Rattle.laws_steps.proofs.Runs.{runs_keep_needed}
+use Rattle.laws_drops.proofs.Runs.{runs_keep_needed}
 use Rattle.laws_run.specs.Early.{IsBare}
 use Rattle.laws_run.proofs.Empty.{empty_sound, empty_bare}
 use Rattle.laws_run.proofs.Soundness.{is_bare, both}

@@ -12,7 +12,7 @@ use Rattle.sm_model.specs.LegalRun.{Run, IsLegal as IsLegalRun}
 use Rattle.sm_model.specs.Asked.{Asked, asking, asked_of, report_events}
 use Rattle.sm_model.specs.Standing.{Stands}
 use Rattle.sm_model.specs.Drops.{Drops, NamedFor}
-use Rattle.laws_steps.specs.Contents.{HasOrigin}
+use Rattle.laws_contents.specs.Contents.{HasOrigin}
 use Rattle.laws_run.specs.Early.{AllEarly, AllFaultless}
 use Rattle.sm_lab.specs.Node.{start}
 

@@ -1,0 +1,5 @@
+pub mod Lists
+pub mod Answers
+pub mod Moves
+pub mod Steps
+pub mod Needed

@@ -1,0 +1,38 @@
+-- The volumes of a running transfer stand in the world.
+use Rattle.std.proofs.Common.{◌≡◌, ℕ, Bool, true, false, cond, ◌||◌, List, [], ◌∷◌, Option, Some, refl, sym, ap, subst, true≢false, ◌∙◌, None}
+use Rattle.sm_base.specs.declared.numbers.Ident.{Ident}
+use Rattle.sm_defs.specs.Words.{Among, same_ident}
+use Rattle.sm_defs.specs.Volume.{Snapshot, no_volume, has}
+use Rattle.sm_defs.specs.World.{Up, no_relation}
+use Rattle.sm_model.specs.Crossed.{Crossed}
+use Rattle.sm_model.specs.Running.{Running, IsRunning}
+use Rattle.sm_model.specs.Steps.{snapshot_of}
+use Rattle.laws_transfer.proofs.Lists.{same_is, has_from_copy}
+use Rattle.laws_cases.proofs.Lists.Members.{among_get_or, find_is}
+
+pub relation_stands : (w : Up) (k : ℕ) (x : Running) → IsRunning w k x → Among w.relations x.relation
+relation_stands w k x r = subst (Among w.relations) r.stands (among_get_or w.relations k no_relation r.place)
+
+pub source_stands : (w : Up) (k : ℕ) (x : Running) → IsRunning w k x → Crossed w → Among w.volumes x.source
+source_stands w k x r c = subst (Among w.volumes) (sym (ap (λ y. y.source) r.is)) (among_get_or w.volumes x.relation.source no_volume (c.relations x.relation (relation_stands w k x r)).source)
+
+pub destination_stands : (w : Up) (k : ℕ) (x : Running) → IsRunning w k x → Crossed w → Among w.volumes x.destination
+destination_stands w k x r c = subst (Among w.volumes) (sym (ap (λ y. y.destination) r.is)) (among_get_or w.volumes x.relation.destination no_volume (c.relations x.relation (relation_stands w k x r)).destination)
+
+pub snapshot_is : (ss : List Snapshot) (i : Ident) (s : Snapshot) → snapshot_of ss (Some i) ≡ Some s → Among ss s × (s.ident ≡ i)
+snapshot_is ss i s e = let q = find_is (λ t. same_ident t.ident i) ss s e in (q.0, same_is s.ident i q.1)
+
+found_in : (z : Snapshot) (o : Option Snapshot) (b c : Bool) → (b || c) ≡ true → (c ≡ true → (s : Snapshot) × (o ≡ Some s)) → (s : Snapshot) × (cond b (Some z) o ≡ Some s)
+found_in z o true c e h = (z, refl)
+found_in z o false c e h = h e
+
+pub found_one : (ss : List Snapshot) (i : Ident) → has ss i ≡ true → (s : Snapshot) × (snapshot_of ss (Some i) ≡ Some s)
+found_one [] i h = absurd (cc)
+found_one (z ∷ zs) i h = found_in z _ (same_ident z.ident i) (has zs i) h (found_one zs i)
+
+pub lacked : (ss : List Snapshot) (i : Ident) (s : Snapshot) → has ss i ≡ false → Among ss s → ¬ (s.ident ≡ i)
+lacked ss i s h m e = true≢false (sym (has_from_copy ss i (s, m, e)) ∙ h)
+
+pub base_is : (o : Option Ident) (ss : List Snapshot) (base : Snapshot) → snapshot_of ss o ≡ Some base → o ≡ Some base.ident
+base_is None ss base e = absurd (cc)
+base_is (Some i) ss base e = ap Some (sym (snapshot_is ss i base e).1)

@@ -1,0 +1,3 @@
+pub mod Traced
+pub mod Along
+pub mod Contents

@@ -1,0 +1,15 @@
+pub mod Copies
+pub mod Fresh
+pub mod Growing
+pub mod Spent
+pub mod Numbered
+pub mod NumbersStay
+pub mod Brings
+pub mod Tags
+pub mod Merged
+pub mod VaultTags
+pub mod StepTags
+pub mod TagsStay
+pub mod CopiesStay
+pub mod Arriving
+pub mod RulesKeep

@@ -1,0 +1,3 @@
+pub mod Bases
+pub mod DestinationsStay
+pub mod TransfersStay

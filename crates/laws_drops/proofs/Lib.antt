@@ -1,0 +1,5 @@
+pub mod DropsOfEvents
+pub mod DropsOfSteps
+pub mod Dropping
+pub mod Runs
+pub mod EntryDrops

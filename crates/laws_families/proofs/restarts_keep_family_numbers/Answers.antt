@@ -1,0 +1,5 @@
+use Rattle.laws_families.proofs.FamiliesStay.{restarts_keep_given}
+use Rattle.laws_families.proofs.restarts_keep_family_numbers.Goals as goal
+
+pub returns : goal.returns
+returns c = restarts_keep_given

@@ -1,0 +1,10 @@
+pub mod Pigeonhole
+pub mod Room
+pub mod Tests
+pub mod MadeNames
+pub mod Shapes
+pub mod FormedParts
+pub mod FormedWorlds
+pub mod NearLeg
+pub mod FormedEvents
+pub mod FormedSteps

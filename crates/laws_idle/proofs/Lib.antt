@@ -1,0 +1,5 @@
+pub mod Choosing
+pub mod HasStep
+pub mod HasEffect
+pub mod Idling
+pub mod Ending

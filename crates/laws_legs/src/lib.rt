@@ -1,0 +1,33 @@
+//! A running transfer's first leg still fits at its destination, and a vault's legs have rules: kept by each
+//! answer, each step and each restart.
+//!
+//! Each law is what a function without code ensures.
+#![tactic(auto)]
+
+ghost use Rattle.laws_legs.specs.Fitting.{AnswersKeepFit, DeedsKeepFit, RestartsKeepFit};
+ghost use Rattle.laws_legs.specs.Keeping.{DeedsKeepLegs, RestartsKeepLegs};
+
+/// After each answer of a sound world what was shipped of a transfer's legs fits.
+pub fn answers_keep_fit()
+    ensures { AnswersKeepFit }
+{}
+
+/// After each deed too.
+pub fn deeds_keep_fit()
+    ensures { DeedsKeepFit }
+{}
+
+/// So it does after a restart of a sound world.
+pub fn restarts_keep_fit()
+    ensures { RestartsKeepFit }
+{}
+
+/// After each deed that begins in a sound world each vault's transfer makes no leg, and its legs have rules.
+pub fn deeds_keep_legs()
+    ensures { DeedsKeepLegs }
+{}
+
+/// So it is after a restart of a sound world.
+pub fn restarts_keep_legs()
+    ensures { RestartsKeepLegs }
+{}

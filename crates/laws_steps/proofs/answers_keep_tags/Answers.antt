@@ -1,5 +1,0 @@
-use Rattle.laws_steps.proofs.CopiesStay.{answers_keep_tags}
-use Rattle.laws_steps.proofs.answers_keep_tags.Goals as goal
-
-pub returns : goal.returns
-returns c = answers_keep_tags

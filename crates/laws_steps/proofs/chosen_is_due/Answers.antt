@@ -1,5 +1,0 @@
-use Rattle.laws_steps.proofs.Choosing.{chosen_is_due}
-use Rattle.laws_steps.proofs.chosen_is_due.Goals as goal
-
-pub returns : goal.returns
-returns c = chosen_is_due

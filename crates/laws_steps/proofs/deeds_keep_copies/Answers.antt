@@ -1,5 +1,0 @@
-use Rattle.laws_steps.proofs.CopiesStay.{deeds_keep_copies}
-use Rattle.laws_steps.proofs.deeds_keep_copies.Goals as goal
-
-pub returns : goal.returns
-returns c = deeds_keep_copies

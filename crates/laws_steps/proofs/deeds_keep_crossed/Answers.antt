@@ -1,5 +1,0 @@
-use Rattle.laws_steps.proofs.CrossedStays.{deeds_keep_crossed}
-use Rattle.laws_steps.proofs.deeds_keep_crossed.Goals as goal
-
-pub returns : goal.returns
-returns c = deeds_keep_crossed

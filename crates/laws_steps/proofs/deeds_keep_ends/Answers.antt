@@ -1,5 +1,0 @@
-use Rattle.laws_steps.proofs.Ending.{deeds_keep_ends}
-use Rattle.laws_steps.proofs.deeds_keep_ends.Goals as goal
-
-pub returns : goal.returns
-returns c = deeds_keep_ends

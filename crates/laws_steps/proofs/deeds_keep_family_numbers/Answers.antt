@@ -1,5 +1,0 @@
-use Rattle.laws_steps.proofs.FamiliesStay.{deeds_keep_given}
-use Rattle.laws_steps.proofs.deeds_keep_family_numbers.Goals as goal
-
-pub returns : goal.returns
-returns c = deeds_keep_given

@@ -1,5 +1,0 @@
-use Rattle.laws_steps.proofs.FitSteps.{deeds_keep_fit}
-use Rattle.laws_steps.proofs.deeds_keep_fit.Goals as goal
-
-pub returns : goal.returns
-returns c = deeds_keep_fit

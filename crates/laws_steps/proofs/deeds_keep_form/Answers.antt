@@ -1,5 +1,0 @@
-use Rattle.laws_steps.proofs.FormedSteps.{deeds_keep_form}
-use Rattle.laws_steps.proofs.deeds_keep_form.Goals as goal
-
-pub returns : goal.returns
-returns c = deeds_keep_form

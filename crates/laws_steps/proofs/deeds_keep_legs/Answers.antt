@@ -1,5 +1,0 @@
-use Rattle.laws_steps.proofs.KeptStays.{deeds_keep_legs}
-use Rattle.laws_steps.proofs.deeds_keep_legs.Goals as goal
-
-pub returns : goal.returns
-returns c = deeds_keep_legs

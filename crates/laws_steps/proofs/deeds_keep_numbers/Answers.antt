@@ -1,5 +1,0 @@
-use Rattle.laws_steps.proofs.NumbersStay.{deeds_keep_numbers}
-use Rattle.laws_steps.proofs.deeds_keep_numbers.Goals as goal
-
-pub returns : goal.returns
-returns c = deeds_keep_numbers

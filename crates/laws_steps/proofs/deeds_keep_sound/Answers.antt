@@ -1,5 +1,0 @@
-use Rattle.laws_steps.proofs.Soundly.{deeds_keep_sound}
-use Rattle.laws_steps.proofs.deeds_keep_sound.Goals as goal
-
-pub returns : goal.returns
-returns c = deeds_keep_sound

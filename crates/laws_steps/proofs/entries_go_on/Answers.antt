@@ -1,5 +1,0 @@
-use Rattle.laws_steps.proofs.EntryDrops.{entries_go_on}
-use Rattle.laws_steps.proofs.entries_go_on.Goals as goal
-
-pub returns : goal.returns
-returns c = entries_go_on

@@ -1,5 +1,0 @@
-use Rattle.laws_steps.proofs.Soundly.{entries_keep_sound}
-use Rattle.laws_steps.proofs.entries_keep_sound.Goals as goal
-
-pub returns : goal.returns
-returns c = entries_keep_sound

@@ -1,5 +1,0 @@
-use Rattle.laws_steps.proofs.CrossedStays.{restarts_keep_crossed}
-use Rattle.laws_steps.proofs.restarts_keep_crossed.Goals as goal
-
-pub returns : goal.returns
-returns c = restarts_keep_crossed

@@ -1,5 +1,0 @@
-use Rattle.laws_steps.proofs.FamiliesStay.{restarts_keep_given}
-use Rattle.laws_steps.proofs.restarts_keep_family_numbers.Goals as goal
-
-pub returns : goal.returns
-returns c = restarts_keep_given

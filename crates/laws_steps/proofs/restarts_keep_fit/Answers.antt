@@ -1,5 +1,0 @@
-use Rattle.laws_steps.proofs.FitStays.{restarts_keep_fit}
-use Rattle.laws_steps.proofs.restarts_keep_fit.Goals as goal
-
-pub returns : goal.returns
-returns c = restarts_keep_fit

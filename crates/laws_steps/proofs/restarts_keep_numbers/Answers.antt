@@ -1,5 +1,0 @@
-use Rattle.laws_steps.proofs.NumbersStay.{restarts_keep_numbers}
-use Rattle.laws_steps.proofs.restarts_keep_numbers.Goals as goal
-
-pub returns : goal.returns
-returns c = restarts_keep_numbers

@@ -1,5 +1,0 @@
-use Rattle.laws_steps.proofs.Soundly.{restarts_keep_sound}
-use Rattle.laws_steps.proofs.restarts_keep_sound.Goals as goal
-
-pub returns : goal.returns
-returns c = restarts_keep_sound

@@ -1,5 +1,0 @@
-use Rattle.laws_steps.proofs.Runs.{runs_do_deeds}
-use Rattle.laws_steps.proofs.runs_do_deeds.Goals as goal
-
-pub returns : goal.returns
-returns c = runs_do_deeds

@@ -1,5 +1,0 @@
-use Rattle.laws_steps.proofs.Deeds.{steps_are_no_refusals}
-use Rattle.laws_steps.proofs.steps_are_no_refusals.Goals as goal
-
-pub returns : goal.returns
-returns c = steps_are_no_refusals

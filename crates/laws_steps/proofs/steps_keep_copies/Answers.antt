@@ -1,5 +1,0 @@
-use Rattle.laws_steps.proofs.CopiesStay.{steps_keep_copies}
-use Rattle.laws_steps.proofs.steps_keep_copies.Goals as goal
-
-pub returns : goal.returns
-returns c = steps_keep_copies

@@ -1,5 +1,0 @@
-use Rattle.laws_steps.proofs.NeedsStay.{steps_keep}
-use Rattle.laws_steps.proofs.steps_keep_the_needed.Goals as goal
-
-pub returns : goal.returns
-returns c = steps_keep
