@@ -30,7 +30,7 @@ use Rattle.sm_model.specs.Sound.{SoundUp}
 use Rattle.laws_transfer.specs.Sending.{IsNewIdent}
 use Rattle.laws_transfer.proofs.Lists.{among_append, among_filter, copy_from_has}
 use Rattle.laws_transfer.proofs.Sent.{legs_new}
-use Rattle.laws_cases.proofs.Answers.Walk.{OfOk, past, with_found, with_ok, with_held, with_target, whether_so, now}
+use Rattle.laws_cases.proofs.Answers.Walk.{OfOk, past, with_found, with_ok, with_held, with_target, whether_so, now, passing, passed}
 use Rattle.laws_cases.proofs.Lists.Members.{among_set, among_get_or}
 use Rattle.laws_cases.proofs.Needed.Needs.{set_cases, push_within}
 use Rattle.laws_cases.proofs.Answers.Changes.{RelationAt, VolumeAt}
@@ -40,6 +40,7 @@ use Rattle.laws_cases.proofs.Answers.OfRelationEvents.{released_at, goes_there}
 use Rattle.laws_cases.proofs.Answers.OfAnswer.{OfAnswer}
 use Rattle.laws_copies.proofs.Numbered.{made_lacked}
 use Rattle.laws_cases.proofs.Needed.Leaving.{same_member}
+use Rattle.sm_defs.specs.Progress as progress
 
 -- ---- a destination and a relationship to it
 
@@ -136,16 +137,16 @@ set_quiesced w d flag s = with_target _ _ _ _ (λ t _ is. let a = relation_at_pl
     (relation_bases w t.relation.at _ s.destinations_stand.bases (shows_same (volume_at w t.relation.item.destination) t.relation.item (relations.quiesced_as flag t.relation.item) (λ x. x) refl (λ b. refl) (s.destinations_stand.bases t.relation.item a.among))))
 
 break_off : (w : Up) (d : List ℕ) → SoundUp w → OfOk Show (relations.break_off w d)
-break_off w d s = with_target _ _ _ _ (λ t is _. past _ _ _ _ (λ _. past _ _ _ _ (λ _. past _ _ _ _ (λ _. now Show _ (writable_bases w t.destination.at _ refl s.destinations_stand.bases)))))
+break_off w d s = with_target _ _ _ _ (λ t is _. passing _ _ _ _ _ (λ _. passing _ _ _ _ _ (λ _. passed _ _ _ _ (λ _. now Show _ (writable_bases w t.destination.at _ refl s.destinations_stand.bases)))))
 
 halves_bases : (w : Up) (k : ℕ) (q : Relationship) → AllShow w → StandsAtBase w q → AllShow (relations.with_halves w k q)
 halves_bases w k q h f r m = relation_bases w k q h f r (among_filter has_a_half (slice_set w.relations k q) r m).0
 
 delete : (w : Up) (d : List ℕ) → SoundUp w → OfOk Show (relations.delete w d)
-delete w d s = with_target _ _ _ _ (λ t _ is. past _ _ _ _ (λ _. now Show _ (halves_bases w t.relation.at _ s.destinations_stand.bases (λ base x half. absurd (cc)))))
+delete w d s = with_target _ _ _ _ (λ t _ is. passed _ _ _ _ (λ _. now Show _ (halves_bases w t.relation.at _ s.destinations_stand.bases (λ base x half. absurd (cc)))))
 
 release : (w : Up) (s d : List ℕ) → SoundUp w → OfOk Show (relations.release w s d)
-release w s d h = with_found _ _ _ _ (λ s _. with_found _ _ _ _ (λ d _. with_found _ _ _ _ (λ r is. past _ _ _ _ (λ _. past _ _ _ _ (λ _. let a = released_at w _ _ r is in now Show _
+release w s d h = with_found _ _ _ _ (λ s _. with_found _ _ _ _ (λ d _. with_found _ _ _ _ (λ r is. passing _ _ _ _ _ (λ _. passed _ _ _ _ (λ _. let a = released_at w _ _ r is in now Show _
     (halves_bases w r.at _ h.destinations_stand.bases (shows_same (volume_at w r.item.destination) r.item (relations.without_source r.item) (λ x. x) refl (λ b. refl) (h.destinations_stand.bases r.item a.among))))))))
 
 -- a leg of the next transfer is new to the destination, or is to be made
@@ -190,10 +191,10 @@ resume_or_start w r kind (Some t) s a e = now Show _ (relation_bases w r.at _ s.
 resume_or_start w r kind None s a e = start_it w r kind s a e
 
 initialize : (w : Up) (d : List ℕ) → SoundUp w → OfOk Show (transfers.initialize w d)
-initialize w d s = with_target _ _ _ _ (λ t _ is. past _ _ _ _ (λ _. past _ _ _ _ (λ _. past _ _ _ _ (λ _. past _ _ _ _ (λ _. resume_or_start w t.relation Initialize _ s (relation_at_place w _ t.relation is) refl)))))
+initialize w d s = with_target _ _ _ _ (λ t _ is. passing _ _ _ _ _ (λ _. passing _ _ _ _ _ (λ _. passing _ _ _ _ _ (λ _. passed _ _ _ _ (λ _. resume_or_start w t.relation Initialize _ s (relation_at_place w _ t.relation is) refl)))))
 
 update : (w : Up) (d : List ℕ) → SoundUp w → OfOk Show (transfers.update w d)
-update w d s = with_target _ _ _ _ (λ t _ is. past _ _ _ _ (λ _. past _ _ _ _ (λ _. past _ _ _ _ (λ _. past _ _ _ _ (λ _. past _ _ _ _ (λ _. resume_or_start w t.relation Update _ s (relation_at_place w _ t.relation is) refl))))))
+update w d s = with_target _ _ _ _ (λ t _ is. passing _ _ _ _ _ (λ _. passing _ _ _ _ _ (λ _. passing _ _ _ _ _ (λ _. passing _ _ _ _ _ (λ _. passed _ _ _ _ (λ _. resume_or_start w t.relation Update _ s (relation_at_place w _ t.relation is) refl))))))
 
 -- an abort leaves the relationship without its transfer, or with it halted
 record Aborted (v : Volume) (q : Relationship) (t : Transfer) : Type 0 where
@@ -207,47 +208,47 @@ not_settled v r t e n h = record {
 }
 
 aborted : (v : Volume) (r : Relationship) (t : Transfer) (is : List Ident) → (v.kind ≡ Dp → StandsAtSnapshot v) → TransferStands v r t → KeysDiffer ident_of v.snapshots →
-    r.transfer ≡ Some t → t.legs ≡ is → Shows v r → Aborted v (transfers.settled_if_there v.snapshots r t is) t
+    r.transfer ≡ Some t → t.legs ≡ is → Shows v r → Aborted v (progress.settled_if_there v.snapshots r t is) t
 aborted v r t [] st ts d e l h = not_settled v r t e (λ b. sym (ap (newest_published v.snapshots b) l)) h
 aborted v r t (i ∷ is) st ts d e l h = go (has v.snapshots i) refl
   where
     lacks : (j : Ident) → Among is j → has v.snapshots j ≡ false
     lacks j m = ts.ahead j (subst (λ ks. Among (transfers_stand.later ks) j) (sym l) m)
 
-    go : (b : Bool) → has v.snapshots i ≡ b → Aborted v (cond b (transfers.settled r t i is) r) t
+    go : (b : Bool) → has v.snapshots i ≡ b → Aborted v (cond b (progress.settled r t i is) r) t
     go true f = record {
-      ended = settled_shown v r (transfers.without_transfer (transfers.settled r t i is)) t i is st ts d e l f (λ x. x) refl (λ j m. absurd m) h;
-      halts = settled_shown v r (transfers.with_transfer (transfers.settled r t i is) (transfers.halted (record t { legs = is; checkpoint = 0; landed = [] }))) t i is st ts d e l f (λ x. x) refl lacks h;
+      ended = settled_shown v r (transfers.without_transfer (progress.settled r t i is)) t i is st ts d e l f (λ x. x) refl (λ j m. absurd m) h;
+      halts = settled_shown v r (transfers.with_transfer (progress.settled r t i is) (transfers.halted (record t { legs = is; checkpoint = 0; landed = [] }))) t i is st ts d e l f (λ x. x) refl lacks h;
     }
     go false f = not_settled v r t e (λ b. sym (ap (newest_published v.snapshots b) l ∙ ap (λ c. cond c i b) f)) h
 
-same_destination : (ss : List Snapshot) (r : Relationship) (t : Transfer) (is : List Ident) → (transfers.settled_if_there ss r t is).destination ≡ r.destination
+same_destination : (ss : List Snapshot) (r : Relationship) (t : Transfer) (is : List Ident) → (progress.settled_if_there ss r t is).destination ≡ r.destination
 same_destination ss r t [] = refl
 same_destination ss r t (i ∷ is) = go (has ss i)
   where
-    go : (b : Bool) → (cond b (transfers.settled r t i is) r).destination ≡ r.destination
+    go : (b : Bool) → (cond b (progress.settled r t i is) r).destination ≡ r.destination
     go true = refl
     go false = refl
 
 abort : (w : Up) (d : List ℕ) (hard : Bool) → SoundUp w → OfOk Show (transfers.abort w d hard)
-abort w d hard s = with_target _ _ _ _ (λ d at is. with_found _ _ _ _ (λ t e. past _ _ _ _ (λ _.
+abort w d hard s = with_target _ _ _ _ (λ d at is. with_found _ _ _ _ (λ t e. passed _ _ _ _ (λ _.
     let a = relation_at_place w _ d.relation is in let k = gone d (volume_at_place w _ d.destination at) a (goes_there w _ d.relation is) t e in
-    let q : Relationship = transfers.settled_if_there d.destination.item.snapshots d.relation.item t t.legs in let e = same_destination d.destination.item.snapshots d.relation.item t t.legs in
+    let q : Relationship = progress.settled_if_there d.destination.item.snapshots d.relation.item t t.legs in let e = same_destination d.destination.item.snapshots d.relation.item t t.legs in
     whether_so _ _ _ _ (λ _. now Show _ (relation_bases w d.relation.at (transfers.without_transfer q) s.destinations_stand.bases (subst (λ i. Shows (volume_at w i) (transfers.without_transfer q)) (sym e) k.ended)))
     (λ _. now Show _ (relation_bases w d.relation.at (transfers.with_transfer q (transfers.halted (transfers.transfer_or t q.transfer))) s.destinations_stand.bases
     (subst (λ i. Shows (volume_at w i) (transfers.with_transfer q (transfers.halted (transfers.transfer_or t q.transfer)))) (sym e) k.halts))))))
   where
     gone : (d : Target) → VolumeAt w d.destination → RelationAt w d.relation → d.relation.item.destination ≡ d.destination.at → (t : Transfer) → d.relation.item.transfer ≡ Some t →
-        Aborted (volume_at w d.relation.item.destination) (transfers.settled_if_there d.destination.item.snapshots d.relation.item t t.legs) t
+        Aborted (volume_at w d.relation.item.destination) (progress.settled_if_there d.destination.item.snapshots d.relation.item t t.legs) t
     gone d at a to t e =
         let v : Volume = volume_at w d.relation.item.destination in
         let there : Among w.volumes v = among_get_or w.volumes d.relation.item.destination no_volume (s.crossed.relations d.relation.item a.among).destination in
         let same : v.snapshots ≡ d.destination.item.snapshots = ap (λ i. (volume_at w i).snapshots) to ∙ ap (λ y. y.snapshots) at.at in
-        subst (λ ss. Aborted v (transfers.settled_if_there ss d.relation.item t t.legs) t) same
+        subst (λ ss. Aborted v (progress.settled_if_there ss d.relation.item t t.legs) t) same
         (aborted v d.relation.item t t.legs (s.destinations_stand.volumes v there) (s.transfers_stand d.relation.item t a.among e) (s.tags_fit v there).idents_differ e refl (s.destinations_stand.bases d.relation.item a.among))
 
 resync : (w : Up) (d : List ℕ) → SoundUp w → OfOk Show (transfers.resync w d)
-resync w d s = with_target _ _ _ _ (λ t at is. past _ _ _ _ (λ a. past _ _ _ _ (λ _. past _ _ _ _ (λ _. past _ _ _ _ (λ _. with_found _ _ _ _ (λ c _. with_held _ _ _ (λ _. with_held _ _ _ (λ _. past _ _ _ _ (λ _. now Show _
+resync w d s = with_target _ _ _ _ (λ t at is. passing _ _ _ _ _ (λ a. passing _ _ _ _ _ (λ _. passing _ _ _ _ _ (λ _. passed _ _ _ _ (λ _. with_found _ _ _ _ (λ c _. with_held _ _ _ (λ _. with_held _ _ _ (λ _. past _ _ _ _ (λ _. now Show _
     (relation_bases w t.relation.at _ s.destinations_stand.bases (λ base x half dp. absurd (not_both _ (at_rw t (volume_at_place w _ t.destination at) (goes_there w _ t.relation is) a) dp))))))))))))
   where
     at_rw : (t : Target) → VolumeAt w t.destination → t.relation.item.destination ≡ t.destination.at → not (is_rw t.destination.item.kind) ≡ false → (volume_at w t.relation.item.destination).kind ≡ Rw

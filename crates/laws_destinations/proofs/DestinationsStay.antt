@@ -23,7 +23,7 @@ use Rattle.sm_model.specs.Running.{Running, IsRunning}
 use Rattle.sm_model.specs.Steps.{Effect, with_destination, reverted, snapshot_of, arrived, list_published, published}
 use Rattle.sm_model.specs.Due.{StepKind, IsEffect, IsStep, by_transfer, by_tidy, is_reverting, settled_relation, goes}
 use Rattle.sm_model.specs.LegalRun.{IsDeed}
-use Rattle.sm_model.specs.Opened.{opened, reopened, rejoined, restarted}
+use Rattle.sm_model.specs.Opened.{opened, rejoined, restarted}
 use Rattle.sm_model.specs.Standing.{EachVolume}
 use Rattle.sm_model.specs.Crossed.{destination_of, with_destination_half}
 use Rattle.sm_model.specs.DestinationsStand.{StandsAtSnapshot, newest_published, StandsAtBase, DestinationsStand}
@@ -51,6 +51,7 @@ use Rattle.laws_copies.proofs.StepTags.{published_among, dp_there}
 use Rattle.laws_destinations.proofs.Bases as bases
 use Rattle.laws_destinations.proofs.Bases.{Shows, AllShow, shows_same, lacked_first, settled_shown, bases_set, writable_bases, relation_bases}
 use Rattle.laws_copies.proofs.RulesKeep.{vault_keeps_leg}
+use Rattle.sm_defs.specs.Operations as operations
 
 abbrev pub StandsIfReadOnly : Volume → Type 0
 StandsIfReadOnly v = v.kind ≡ Dp → StandsAtSnapshot v
@@ -317,9 +318,9 @@ deeds_keep_destinations e d s i = let a = of_done e (answer d.old e) d (all_answ
 
 -- ---- restarts
 
-reopened_stands : (v : Volume) → StandsIfReadOnly v → StandsIfReadOnly (reopened v)
+reopened_stands : (v : Volume) → StandsIfReadOnly v → StandsIfReadOnly (operations.opened v)
 reopened_stands v h d = record {
-  blank = λ z p b t. (h d).blank z p b (stored_from v (reopened v) (reopened_from v) p b t);
+  blank = λ z p b t. (h d).blank z p b (stored_from v (operations.opened v) (reopened_from v) p b t);
   still = λ n. refl;
   at = λ n. let (t, m, e) = (h d).at n in (t, m, (h d).still n ∙ e);
 }
@@ -330,13 +331,13 @@ rejoined_legs (Some t) = refl
 
 pub restarts_keep_destinations : (w : Up) → SoundUp w → DestinationsStand (opened w)
 restarts_keep_destinations w s = record {
-  volumes = each_mapped StandsIfReadOnly reopened w.volumes (λ v m. reopened_stands v (s.destinations_stand.volumes v m));
+  volumes = each_mapped StandsIfReadOnly operations.opened w.volumes (λ v m. reopened_stands v (s.destinations_stand.volumes v m));
   bases = λ r m. let (q, n, e) = from_map rejoined w.relations r m in subst (StandsAtBase (opened w)) (sym e) (each q n);
 }
   where
     each : (q : Relationship) → Among w.relations q → StandsAtBase (opened w) (rejoined q)
     each q n =
         let within = (s.crossed.relations q n).destination in let v : Volume = volume_at w q.destination in
-        subst (λ u. Shows u (rejoined q)) (sym (mapped_at reopened w.volumes no_volume q.destination within)) (λ b t half dp e m i.
+        subst (λ u. Shows u (rejoined q)) (sym (mapped_at operations.opened w.volumes no_volume q.destination within)) (λ b t half dp e m i.
         (s.destinations_stand.volumes v (among_get_or w.volumes q.destination no_volume within) dp).still (λ z. subst (λ ss. Among ss t) z m) ∙
         s.destinations_stand.bases q n b t half dp e m (i ∙ ap (newest_published v.snapshots b) (rejoined_legs q.transfer)))

@@ -31,7 +31,7 @@ use Rattle.sm_model.specs.Running.{Running, IsRunning}
 use Rattle.sm_model.specs.Steps.{Effect, with_destination, interrupted, reverted, prepared_snapshot, arrived, list_published, published}
 use Rattle.sm_model.specs.Due.{StepKind, IsEffect, IsStep, by_transfer, by_tidy, reserved_leg, settled_relation, goes, insert_landed, is_tidied}
 use Rattle.sm_model.specs.LegalRun.{IsDeed}
-use Rattle.sm_model.specs.Opened.{opened, reopened, rejoined, restarted}
+use Rattle.sm_model.specs.Opened.{opened, rejoined, restarted}
 use Rattle.sm_model.specs.Crossed.{IsReservedLeg}
 use Rattle.sm_model.specs.TransfersStand.{later, IsFirst, TransferStands, TransfersStand}
 use Rattle.sm_model.specs.Sound.{SoundUp}
@@ -40,7 +40,7 @@ use Rattle.laws_transfer.specs.Sending.{IsNewIdent}
 use Rattle.laws_transfer.proofs.Asc.{among_each}
 use Rattle.laws_transfer.proofs.Kept.{common_newest}
 use Rattle.laws_transfer.proofs.Lists.{among_append, among_filter, among_right, from_map, copy_from_has, has_from_copy, same_is, is_same}
-use Rattle.laws_cases.proofs.Answers.Walk.{OfOk, past, with_found, with_ok, with_held, with_target, whether_so, now, going}
+use Rattle.laws_cases.proofs.Answers.Walk.{OfOk, past, with_found, with_ok, with_held, with_target, whether_so, now, going, passing, passed}
 use Rattle.laws_cases.proofs.Lists.Members.{among_set, among_get_or, set_at}
 use Rattle.laws_cases.proofs.Needed.Needs.{set_cases, push_within, mapped_at, split_at}
 use Rattle.laws_cases.proofs.Lists.Thinned.{filter_thins, thinned_among}
@@ -61,6 +61,7 @@ use Rattle.laws_destinations.proofs.Bases.{new_or_made, new_lacked}
 use Rattle.laws_cases.proofs.Answers.Deeds.{done_gives}
 use Rattle.laws_copies.proofs.Numbered.{made_lacked}
 use Rattle.laws_cases.proofs.Steps.RunningTransfers.{one_destination}
+use Rattle.sm_defs.specs.Progress as progress
 
 -- ---- a transfer and its destination
 
@@ -196,7 +197,7 @@ set_quiesced w d flag s = with_target _ _ _ _ (λ t _ is. let a = relation_at_pl
     (transfers_relation w t.relation.at (relations.quiesced_as flag t.relation.item) s.transfers_stand (transfers_same w t.relation.item (relations.quiesced_as flag t.relation.item) s a.among refl refl refl)))
 
 break_off : (w : Up) (d : List ℕ) → SoundUp w → OfOk Stand (relations.break_off w d)
-break_off w d s = with_target _ _ _ _ (λ t at is. past _ _ _ _ (λ _. past _ _ _ _ (λ _. past _ _ _ _ (λ n. now Stand _
+break_off w d s = with_target _ _ _ _ (λ t at is. passing _ _ _ _ _ (λ _. passing _ _ _ _ _ (λ _. passed _ _ _ _ (λ n. now Stand _
     (transfers_set w t.destination.at _ s.transfers_stand (λ r u m e d. absurd (none_here t is n r u m e d)))))))
   where
     none_here : (t : Target) → found (goes_to t.destination.at) w.relations ≡ Some t.relation → is_some t.relation.item.transfer ≡ false → (r : Relationship) (u : Transfer) → Among w.relations r → r.transfer ≡ Some u → r.destination ≡ t.destination.at → ⊥
@@ -209,11 +210,11 @@ halves_stand : (w : Up) (k : ℕ) (q : Relationship) → TransfersStand w → ((
 halves_stand w k q h f r t m e = transfers_relation w k q h f r t (among_filter has_a_half (slice_set w.relations k q) r m).0 e
 
 delete : (w : Up) (d : List ℕ) → SoundUp w → OfOk Stand (relations.delete w d)
-delete w d s = with_target _ _ _ _ (λ t _ is. past _ _ _ _ (λ _. let a = relation_at_place w _ t.relation is in now Stand _
+delete w d s = with_target _ _ _ _ (λ t _ is. passed _ _ _ _ (λ _. let a = relation_at_place w _ t.relation is in now Stand _
     (halves_stand w t.relation.at (relations.without_destination t.relation.item) s.transfers_stand (transfers_same w t.relation.item (relations.without_destination t.relation.item) s a.among refl refl refl))))
 
 release : (w : Up) (s d : List ℕ) → SoundUp w → OfOk Stand (relations.release w s d)
-release w s d h = with_found _ _ _ _ (λ s _. with_found _ _ _ _ (λ d _. with_found _ _ _ _ (λ r is. past _ _ _ _ (λ _. past _ _ _ _ (λ _. let a = released_at w _ _ r is in now Stand _
+release w s d h = with_found _ _ _ _ (λ s _. with_found _ _ _ _ (λ d _. with_found _ _ _ _ (λ r is. passing _ _ _ _ _ (λ _. passed _ _ _ _ (λ _. let a = released_at w _ _ r is in now Stand _
     (halves_stand w r.at (relations.without_source r.item) h.transfers_stand (transfers_same w r.item (relations.without_source r.item) h a.among refl refl refl)))))))
 
 -- ---- transfers that start, go on or stop
@@ -249,48 +250,48 @@ resume_or_start w r kind (Some t) s a e k dp none = now Stand _ (transfers_relat
 resume_or_start w r kind None s a e k dp none = start_it w r kind s a k dp (none e)
 
 initialize : (w : Up) (d : List ℕ) → SoundUp w → OfOk Stand (transfers.initialize w d)
-initialize w d s = with_target _ _ _ _ (λ t at is. past _ _ _ _ (λ a. past _ _ _ _ (λ b. past _ _ _ _ (λ _. past _ _ _ _ (λ _. let v = at_target w t _ at is in
+initialize w d s = with_target _ _ _ _ (λ t at is. passing _ _ _ _ _ (λ a. passing _ _ _ _ _ (λ b. passing _ _ _ _ _ (λ _. passed _ _ _ _ (λ _. let v = at_target w t _ at is in
     resume_or_start w t.relation Initialize _ s (relation_at_place w _ t.relation is) refl (λ e. cc) (ap (λ y. y.kind) v ∙ dp_from t.destination.item.kind a)
     (λ _ _ u m. none_empty t.destination.item.snapshots (not-false (is_empty t.destination.item.snapshots) b) u (subst (λ y. Among y.snapshots u) v m)))))))
 
 update : (w : Up) (d : List ℕ) → SoundUp w → OfOk Stand (transfers.update w d)
-update w d s = with_target _ _ _ _ (λ t at is. past _ _ _ _ (λ a. past _ _ _ _ (λ b. past _ _ _ _ (λ _. past _ _ _ _ (λ _. past _ _ _ _ (λ _. let v = at_target w t _ at is in
+update w d s = with_target _ _ _ _ (λ t at is. passing _ _ _ _ _ (λ a. passing _ _ _ _ _ (λ b. passing _ _ _ _ _ (λ _. passing _ _ _ _ _ (λ _. passed _ _ _ _ (λ _. let v = at_target w t _ at is in
     resume_or_start w t.relation Update _ s (relation_at_place w _ t.relation is) refl (λ e. cc) (ap (λ y. y.kind) v ∙ dp_from t.destination.item.kind a)
     (λ o n. absurd (some_base (is_empty t.destination.item.snapshots) t.relation.item.base t.relation.item.transfer b o n))))))))
 
 -- ---- Abort
 
 aborted : (v : Volume) (r : Relationship) (t : Transfer) (is : List Ident) (ss : List Snapshot) → r.transfer ≡ Some t → t.legs ≡ is → TransferStands v r t →
-    TransferStands v (transfers.with_transfer (transfers.settled_if_there ss r t is) (transfers.halted (transfers.transfer_or t (transfers.settled_if_there ss r t is).transfer)))
-    (transfers.halted (transfers.transfer_or t (transfers.settled_if_there ss r t is).transfer))
+    TransferStands v (transfers.with_transfer (progress.settled_if_there ss r t is) (transfers.halted (transfers.transfer_or t (progress.settled_if_there ss r t is).transfer)))
+    (transfers.halted (transfers.transfer_or t (progress.settled_if_there ss r t is).transfer))
 aborted v r t is ss e l ts = go is l
   where
     same : TransferStands v (transfers.with_transfer r (transfers.halted (transfers.transfer_or t r.transfer))) (transfers.halted (transfers.transfer_or t r.transfer))
     same = subst (λ o. TransferStands v (transfers.with_transfer r (transfers.halted (transfers.transfer_or t o))) (transfers.halted (transfers.transfer_or t o))) (sym e)
-        (stands_on v r (transfers.with_transfer r (transfers.halted t)) t (transfers.halted t) refl refl refl (λ x y. (ap transfers.landed_prefix y, ap (λ ks. numbers 0 (transfers.landed_prefix ks)) y)) (λ _. refl) ts)
+        (stands_on v r (transfers.with_transfer r (transfers.halted t)) t (transfers.halted t) refl refl refl (λ x y. (ap progress.landed_prefix y, ap (λ ks. numbers 0 (progress.landed_prefix ks)) y)) (λ _. refl) ts)
 
-    go : (is : List Ident) → t.legs ≡ is → TransferStands v (transfers.with_transfer (transfers.settled_if_there ss r t is) (transfers.halted (transfers.transfer_or t (transfers.settled_if_there ss r t is).transfer)))
-        (transfers.halted (transfers.transfer_or t (transfers.settled_if_there ss r t is).transfer))
+    go : (is : List Ident) → t.legs ≡ is → TransferStands v (transfers.with_transfer (progress.settled_if_there ss r t is) (transfers.halted (transfers.transfer_or t (progress.settled_if_there ss r t is).transfer)))
+        (transfers.halted (transfers.transfer_or t (progress.settled_if_there ss r t is).transfer))
     go [] l = same
     go (i ∷ is) l = by (has ss i)
       where
-        by : (b : Bool) → TransferStands v (transfers.with_transfer (cond b (transfers.settled r t i is) r) (transfers.halted (transfers.transfer_or t (cond b (transfers.settled r t i is) r).transfer)))
-            (transfers.halted (transfers.transfer_or t (cond b (transfers.settled r t i is) r).transfer))
+        by : (b : Bool) → TransferStands v (transfers.with_transfer (cond b (progress.settled r t i is) r) (transfers.halted (transfers.transfer_or t (cond b (progress.settled r t i is) r).transfer)))
+            (transfers.halted (transfers.transfer_or t (cond b (progress.settled r t i is) r).transfer))
         by true = stands_settled v r t _ _ i is l refl refl refl refl refl (λ _. refl) ts
         by false = same
 
-same_destination : (ss : List Snapshot) (r : Relationship) (t : Transfer) (is : List Ident) → (transfers.settled_if_there ss r t is).destination ≡ r.destination
+same_destination : (ss : List Snapshot) (r : Relationship) (t : Transfer) (is : List Ident) → (progress.settled_if_there ss r t is).destination ≡ r.destination
 same_destination ss r t [] = refl
 same_destination ss r t (i ∷ is) = go (has ss i)
   where
-    go : (b : Bool) → (cond b (transfers.settled r t i is) r).destination ≡ r.destination
+    go : (b : Bool) → (cond b (progress.settled r t i is) r).destination ≡ r.destination
     go true = refl
     go false = refl
 
 abort : (w : Up) (d : List ℕ) (hard : Bool) → SoundUp w → OfOk Stand (transfers.abort w d hard)
-abort w d hard s = with_target _ _ _ _ (λ d _ is. with_found _ _ _ _ (λ t e. past _ _ _ _ (λ _.
+abort w d hard s = with_target _ _ _ _ (λ d _ is. with_found _ _ _ _ (λ t e. passed _ _ _ _ (λ _.
     let a = relation_at_place w _ d.relation is in
-    let q : Relationship = transfers.settled_if_there d.destination.item.snapshots d.relation.item t t.legs in
+    let q : Relationship = progress.settled_if_there d.destination.item.snapshots d.relation.item t t.legs in
     let to = same_destination d.destination.item.snapshots d.relation.item t t.legs in
     let h : Transfer = transfers.halted (transfers.transfer_or t q.transfer) in
     whether_so _ _ _ _ (λ _. now Stand _ (transfers_relation w d.relation.at (transfers.without_transfer q) s.transfers_stand (λ u f. absurd (cc))))
@@ -356,7 +357,7 @@ resynced_stands w r c s m e = record {
 }
 
 resync : (w : Up) (d : List ℕ) → SoundUp w → OfOk Stand (transfers.resync w d)
-resync w d s = with_target _ _ _ _ (λ t at is. past _ _ _ _ (λ _. past _ _ _ _ (λ _. past _ _ _ _ (λ _. past _ _ _ _ (λ _. with_found _ _ _ _ (λ c e. with_held _ _ _ (λ _. with_held _ _ _ (λ _. past _ _ _ _ (λ _.
+resync w d s = with_target _ _ _ _ (λ t at is. passing _ _ _ _ _ (λ _. passing _ _ _ _ _ (λ _. passing _ _ _ _ _ (λ _. passed _ _ _ _ (λ _. with_found _ _ _ _ (λ c e. with_held _ _ _ (λ _. with_held _ _ _ (λ _. past _ _ _ _ (λ _.
     now Stand _ (there t c (relation_at_place w _ t.relation is) (at_target w t _ at is) e))))))))))
   where
     there : (t : Target) (c : Snapshot) → RelationAt w t.relation → volume_at w t.relation.item.destination ≡ t.destination.item → common (volume_at w t.relation.item.source).snapshots t.destination.item.snapshots ≡ Some c →
@@ -506,7 +507,7 @@ of_effect w k x kind e s r (due_settle j is a f) i = subst By (sym i) (settles w
 of_effect w k x kind e s r (due_prepare a f) i = subst By (sym i) (going By w k x _ _ (stops w k x s r) (λ o. prepares w k x s r a f (rw_if x.source.kind (no_reason _ _ _ o).0)))
 of_effect w k x kind e s r (due_prune leg a b) i = subst By (sym i) (going By w k x _ _ (stops w k x s r) (λ _. prunes w k x s r leg a))
 of_effect w k x kind e s r (due_publish leg a b c) i = subst By (sym i) (going By w k x _ _ (stops w k x s r) (λ _. publishes w k x s r leg a))
-of_effect w k x kind e s r (due_checkpoint leg a b c d) i = subst By (sym i) (ships w k x s r leg a (record x.transfer { checkpoint = transfers.landed_prefix x.transfer.landed }) refl refl)
+of_effect w k x kind e s r (due_checkpoint leg a b c d) i = subst By (sym i) (ships w k x s r leg a (record x.transfer { checkpoint = progress.landed_prefix x.transfer.landed }) refl refl)
 of_effect w k x kind e s r (due_ship leg a b c d) (n, m, i) = subst By (sym i) (going By w k x _ _ (stops w k x s r) (λ _. ships w k x s r leg a (record x.transfer { landed = insert_landed n x.transfer.landed }) refl refl))
 
 of_step : (w : Up) (e : Effect) → SoundUp w → IsStep w e → By e
@@ -520,13 +521,13 @@ deeds_keep_transfers e d s i = done_gives TransfersStand (answer d.old e) d (of_
 
 -- ---- restarts
 
-reopened_begins : (v : Volume) (q : Relationship) (o : Option Transfer) → ((t : Transfer) → o ≡ Some t → TransferStands v q t) → (t : Transfer) → restarted o ≡ Some t → TransferStands (reopened v) (rejoined q) t
+reopened_begins : (v : Volume) (q : Relationship) (o : Option Transfer) → ((t : Transfer) → o ≡ Some t → TransferStands v q t) → (t : Transfer) → restarted o ≡ Some t → TransferStands (operations.opened v) (rejoined q) t
 reopened_begins v q None h t e = absurd (cc)
-reopened_begins v q (Some u) h t e = subst (TransferStands (reopened v) (rejoined q)) (same_Some _ t e)
-    (stands_fewer v (reopened v) (rejoined q) _ (λ z. z) (λ s m. m) (stands_on v q (rejoined q) u _ refl refl refl (λ a b. (a, no_landing u.checkpoint a)) (λ _. refl) (h u refl)))
+reopened_begins v q (Some u) h t e = subst (TransferStands (operations.opened v) (rejoined q)) (same_Some _ t e)
+    (stands_fewer v (operations.opened v) (rejoined q) _ (λ z. z) (λ s m. m) (stands_on v q (rejoined q) u _ refl refl refl (λ a b. (a, no_landing u.checkpoint a)) (λ _. refl) (h u refl)))
 
 pub restarts_keep_transfers : (w : Up) → SoundUp w → TransfersStand (opened w)
 restarts_keep_transfers w s r t m e = let (q, n, f) = from_map rejoined w.relations r m in
     subst (λ p. TransferStands (volume_at (opened w) p.destination) p t) (sym f)
-    (subst (λ v. TransferStands v (rejoined q) t) (sym (mapped_at reopened w.volumes no_volume q.destination (s.crossed.relations q n).destination))
+    (subst (λ v. TransferStands v (rejoined q) t) (sym (mapped_at operations.opened w.volumes no_volume q.destination (s.crossed.relations q n).destination))
     (reopened_begins (volume_at w q.destination) q q.transfer (λ u g. s.transfers_stand q u n g) t (ap (λ y. y.transfer) (sym f) ∙ e)))

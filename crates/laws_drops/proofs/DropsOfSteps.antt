@@ -5,14 +5,13 @@ use Rattle.sm_base.specs.declared.numbers.Ident.{Ident}
 use Rattle.sm_model.specs.declared.reply.Reply.{Reply}
 use Rattle.sm_model.specs.declared.reply.Reply.TheVariants as replies
 use Rattle.sm_defs.specs.Words.{Among, KeysDiffer, same_ident, up_to}
-use Rattle.sm_defs.specs.Volume.{Volume, Snapshot, no_volume, ident_of, has, without}
+use Rattle.sm_defs.specs.Volume.{Volume, Snapshot, no_volume, ident_of, has, without, past}
 use Rattle.sm_defs.specs.Relationship.{Relationship, Transfer, is_mirror}
 use Rattle.sm_defs.specs.Retention.{retained}
 use Rattle.sm_defs.specs.Needed.{needed}
 use Rattle.sm_defs.specs.World.{Up, volume_at, with_volume}
 use Rattle.sm_model.specs.Formed.{NumbersAscend}
 use Rattle.sm_model.specs.Sound.{SoundUp}
-use Rattle.sm_model.specs.OfTransfers.{past}
 use Rattle.sm_model.specs.Drops.{NamedAt, NamedByRevert, NamedByPrune, NamedByRetention, NamedByTidy, NamedByStep}
 use Rattle.sm_model.specs.Running.{Running, running_in, IsRunning}
 use Rattle.sm_base.specs.declared.refusal.Reason.{Reason}

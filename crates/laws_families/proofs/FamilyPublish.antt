@@ -10,7 +10,7 @@ use Rattle.sm_defs.specs.Volume.{Volume, Snapshot, has}
 use Rattle.sm_defs.specs.Relationship.{Relationship, Transfer, is_mirror}
 use Rattle.sm_defs.specs.World.{Up, volume_at}
 use Rattle.sm_model.specs.Running.{Running, IsRunning}
-use Rattle.sm_model.specs.Steps.{family_of_transfer, with_destination, reverted, snapshot_of, is_elsewhere, arrived, published, list_published}
+use Rattle.sm_model.specs.Steps.{with_destination, reverted, snapshot_of, is_elsewhere, arrived, published, list_published}
 use Rattle.sm_model.specs.Due.{has_other_family}
 use Rattle.sm_model.specs.TransfersStand.{later}
 use Rattle.sm_model.specs.FamiliesStand.{IsBaseOrFirst, InOwnFamily, FamilyStands}
@@ -24,6 +24,7 @@ use Rattle.laws_families.proofs.FamilyParts.{Took, family_volume}
 use Rattle.laws_families.proofs.FamilyAnswers.{AllStand}
 use Rattle.laws_families.proofs.FamilyTakes.{family_taken, lacks_by, filled_has, based, other_number}
 use Rattle.laws_cases.proofs.Steps.RunningTransfers.{here, crossed, transfer, at_x, source_x, policy_x, not_vault, mirrors_none, own_here, same_family}
+use Rattle.sm_defs.specs.Made.{family_of_transfer}
 
 base_or_first : (q : Relationship) (is : List Ident) (i : Ident) → q.base ≡ Some i → IsBaseOrFirst q is i
 base_or_first q [] i e = e

@@ -18,10 +18,11 @@ use Rattle.sm_defs.specs.Volume.{Snapshot, numbers, has, idents}
 use Rattle.sm_defs.specs.Relationship.{Rule, Policy, Relationship, Transfer, rule_for, is_mirror, sends_all}
 use Rattle.sm_defs.specs.Legs.{Legs, Source, after_base, candidates, only_newest, made_ident, mirror_legs, vault_legs, has_rule, legs}
 use Rattle.sm_model.specs.Formed.{FormedRule, FormedPolicy, FormedTransfer, AreAdded}
-use Rattle.sm_model.specs.OfPolicies.{first_rules, new_policy, is_wrong_rule, is_bad_keep, with_rule}
-use Rattle.sm_model.specs.OfTransfers.{new_transfer, settled}
+use Rattle.sm_model.specs.OfTransfers.{new_transfer}
 use Rattle.laws_cases.proofs.Lists.Frames.{each_push}
 use Rattle.laws_cases.proofs.Lists.Thinned.{filter_thins, thinned_shorter}
+use Rattle.sm_defs.specs.Rules.{first_rules, new_policy, is_wrong_rule, is_bad_keep, with_rule}
+use Rattle.sm_defs.specs.Progress.{settled}
 
 -- ---- policies
 

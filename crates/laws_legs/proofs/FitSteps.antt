@@ -17,7 +17,7 @@ use Rattle.sm_defs.specs.Image.{Block, Image, tags, SameContents, stands}
 use Rattle.sm_defs.specs.Volume.{Volume, Snapshot, has, free, free_tags, no_volume, is_rw, without}
 use Rattle.sm_defs.specs.Relationship.{Policy, Relationship, Transfer, is_mirror, is_resync}
 use Rattle.sm_defs.specs.World.{Up, volume_at, policy_at, with_volume, with_relation}
-use Rattle.sm_model.specs.OfTransfers.{Holding, first_held, with_transfer, without_transfer, landed_prefix}
+use Rattle.sm_model.specs.OfTransfers.{Holding, first_held, with_transfer, without_transfer}
 use Rattle.sm_model.specs.LegsFit.{IsUnderWay, IsChecked, Agree, FitsSource, FirstLegFits, FirstFits, LegsFitFor, LegsFit}
 use Rattle.sm_model.specs.Running.{Running, IsRunning, running_in}
 use Rattle.sm_model.specs.Steps.{Effect, with_destination, interrupted, reverted, snapshot_of, bases, landing, cost, arrived, published, list_published, may_ship, at_checkpoint}
@@ -50,6 +50,7 @@ use Rattle.laws_cases.proofs.Moves.PoliciesStay.{same_policies}
 use Rattle.laws_cases.proofs.Steps.LegsThere.{leg_there}
 use Rattle.laws_copies.proofs.RulesKeep.{vault_keeps_leg}
 use Rattle.laws_cases.proofs.Steps.RunningTransfers.{here, crossed, at_x, source_x, own_here, same_family}
+use Rattle.sm_defs.specs.Progress.{landed_prefix}
 
 -- images with the same numbers and the same bytes are the same
 same_image : (xs ys : Image) → tags xs ≡ tags ys → SameContents xs ys → xs ≡ ys

@@ -8,9 +8,10 @@ use Rattle.sm_defs.specs.Volume.{Snapshot}
 use Rattle.sm_defs.specs.Relationship.{Rule, Policy, rule_for}
 use Rattle.sm_defs.specs.Legs.{has_rule}
 use Rattle.sm_defs.specs.World.{Up, policy_at, no_policy}
-use Rattle.sm_model.specs.OfPolicies.{with_policy, with_rule, with_new_policy}
+use Rattle.sm_model.specs.OfPolicies.{with_policy, with_new_policy}
 use Rattle.laws_cases.proofs.Needed.Needs.{set_cases, push_within}
 use Rattle.laws_cases.proofs.Moves.Moves.{PolicyAt, Aside, nothing, clock, new_policy, rule, creates, writes, drops, points, breaks, snaps}
+use Rattle.sm_defs.specs.Rules.{with_rule}
 
 -- policies keep their kinds, and what had a rule has it still
 pub record PoliciesStay (w u : Up) : Type 0 where
