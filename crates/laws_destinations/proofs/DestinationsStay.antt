@@ -8,6 +8,7 @@ use Rattle.sm_base.specs.declared.numbers.Ident.{Ident}
 use Rattle.sm_base.specs.declared.numbers.Kind.TheVariants.{Rw, Dp}
 use Rattle.sm_model.specs.declared.event.Event.{Event}
 use Rattle.sm_model.specs.declared.event.Event.TheVariants as events
+use Rattle.sm_defs.specs.Classes.{class_of}
 use Rattle.sm_defs.specs.Words.{Among, KeysDiffer, same_ident, up_to}
 use Rattle.sm_defs.specs.Thinned.{Thinned}
 use Rattle.sm_defs.specs.Volume.{Volume, Snapshot, is_rw, ident_of, has, no_volume, without}
@@ -259,7 +260,7 @@ module _ (w : Up) (k : ℕ) (x : Running) (s : SoundUp w) (r : IsRunning w k x) 
     leg_kept = go (is_mirror x.policy.kind) refl
       where
         go : (m : Bool) → is_mirror x.policy.kind ≡ m → has (list_published w x (arrived x leg)) leg.ident ≡ true
-        go true m = ap (λ c. has (cond c (x.destination.snapshots ++ arrived x leg ∷ []) (retained x.policy.rules (needed w x.relation.destination) (x.destination.snapshots ++ arrived x leg ∷ []))) leg.ident) m ∙
+        go true m = ap (λ c. has (cond c (x.destination.snapshots ++ arrived x leg ∷ []) (retained x.policy.rules (class_of x.policy) (needed w x.relation.destination) (x.destination.snapshots ++ arrived x leg ∷ []))) leg.ident) m ∙
             has_from_copy (x.destination.snapshots ++ arrived x leg ∷ []) leg.ident (arrived x leg, among_right x.destination.snapshots (arrived x leg ∷ []) _ (inl refl), refl)
         go false m = vault_keeps_leg w k x leg (is_mirror x.policy.kind) s r a m m
 

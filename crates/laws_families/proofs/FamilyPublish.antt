@@ -3,6 +3,7 @@ use Rattle.std.proofs.Common.{◌≡◌, ◌≢◌, ◌⊎◌, ℕ, Bool, true, 
 use Rattle.std.proofs.lemmas.Bool.{cases_eq}
 use Rattle.sm_base.specs.declared.numbers.Ident.{Ident}
 use Rattle.sm_base.specs.declared.numbers.Kind.TheVariants.{Rw}
+use Rattle.sm_defs.specs.Classes.{class_of}
 use Rattle.sm_defs.specs.Needed.{needed}
 use Rattle.sm_defs.specs.Retention.{retained}
 use Rattle.sm_defs.specs.Words.{Among}
@@ -144,6 +145,6 @@ module _ (w : Up) (k : ℕ) (x : Running) (s : SoundUp w) (r : IsRunning w k x) 
       old o d f j l h y i (inl z) = has_from_copy x.destination.snapshots j (y, z, i)
       old o d f j l h y i (inr z) = absurd (not_leg o f j l h ((leg_there leg a).1 j (sym i ∙ ap (λ p. p.ident) z)) (cases_eq x.relation.source q.destination))
 
-      some : (b : Bool) → b ≡ true → cond b (x.destination.snapshots ++ arrived x leg ∷ []) (retained x.policy.rules (needed w x.relation.destination) (x.destination.snapshots ++ arrived x leg ∷ [])) ≢ []
+      some : (b : Bool) → b ≡ true → cond b (x.destination.snapshots ++ arrived x leg ∷ []) (retained x.policy.rules (class_of x.policy) (needed w x.relation.destination) (x.destination.snapshots ++ arrived x leg ∷ [])) ≢ []
       some true e = filled_has _ leg.ident (has_from_copy (x.destination.snapshots ++ arrived x leg ∷ []) leg.ident (arrived x leg, among_right x.destination.snapshots (arrived x leg ∷ []) (arrived x leg) (inl refl), refl))
       some false e = absurd (true≢false (sym e))

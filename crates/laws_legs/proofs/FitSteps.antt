@@ -7,6 +7,7 @@ use Rattle.sm_base.specs.declared.numbers.Ident.{Ident}
 use Rattle.sm_base.specs.declared.numbers.Kind.TheVariants.{Rw}
 use Rattle.sm_base.specs.declared.refusal.Reason.{Reason}
 use Rattle.sm_base.specs.declared.refusal.Reason.TheVariants.{NoSpace}
+use Rattle.sm_defs.specs.Classes.{class_of}
 use Rattle.sm_defs.specs.Edges.{is_empty}
 use Rattle.sm_base.specs.declared.limits.TheConstants.{WINDOW}
 use Rattle.sm_defs.specs.Missing.{vault_landing}
@@ -197,7 +198,7 @@ module _ (w : Up) (k : ℕ) (x : Running) (s : SoundUp w) (r : IsRunning w k x) 
   published_there : (leg : Snapshot) → Ahead x leg → has (list_published w x (arrived x leg)) leg.ident ≡ true
   published_there leg a = go (is_mirror x.policy.kind) refl
     where
-      go : (b : Bool) → is_mirror x.policy.kind ≡ b → has (cond b (x.destination.snapshots ++ arrived x leg ∷ []) (retained x.policy.rules (needed w x.relation.destination) (x.destination.snapshots ++ arrived x leg ∷ []))) leg.ident ≡ true
+      go : (b : Bool) → is_mirror x.policy.kind ≡ b → has (cond b (x.destination.snapshots ++ arrived x leg ∷ []) (retained x.policy.rules (class_of x.policy) (needed w x.relation.destination) (x.destination.snapshots ++ arrived x leg ∷ []))) leg.ident ≡ true
       go true m = has_from_copy (x.destination.snapshots ++ arrived x leg ∷ []) leg.ident (arrived x leg, among_right x.destination.snapshots (arrived x leg ∷ []) (arrived x leg) (inl refl), refl)
       go false m = vault_keeps_leg w k x leg false s r a m refl
 

@@ -5,3 +5,4 @@ pub mod Thinned
 pub mod Keys
 pub mod Searches
 pub mod Numbers
+pub mod Classes

@@ -4,6 +4,7 @@ pub mod Volume
 pub mod Operations
 pub mod Relationship
 pub mod Rules
+pub mod Classes
 pub mod World
 pub mod Edges
 pub mod Needed

@@ -16,6 +16,7 @@ use Rattle.sm_defs.specs.Relationship.{Transfer, is_mirror}
 use Rattle.sm_defs.specs.Made.{made_name, family_of_transfer}
 use Rattle.sm_defs.specs.Progress.{landed_prefix}
 use Rattle.sm_defs.specs.Missing.{Bases, mirror_cost, vault_cost, vault_landing}
+use Rattle.sm_defs.specs.Classes.{class_of}
 use Rattle.sm_defs.specs.Retention.{retained}
 use Rattle.sm_defs.specs.World.{Up, with_volume, with_relation}
 use Rattle.sm_defs.specs.Needed.{needed}
@@ -105,7 +106,7 @@ arrived x leg = record leg { image = landing x leg }
 -- the destination's list with the leg last, and what a vault keeps of it
 abbrev pub list_published : Up → Running → Snapshot → List Snapshot
 list_published w x s = if is_mirror x.policy.kind then x.destination.snapshots ++ s ∷ []
-    else retained x.policy.rules (needed w x.relation.destination) (x.destination.snapshots ++ s ∷ [])
+    else retained x.policy.rules (class_of x.policy) (needed w x.relation.destination) (x.destination.snapshots ++ s ∷ [])
 
 abbrev pub published : Up → Running → Snapshot → Volume
 published w x leg = taken_over x.destination (landing x leg) (family_published w x leg.ident) (list_published w x (arrived x leg))

@@ -3,6 +3,7 @@ use Rattle.std.proofs.Common.{◌≡◌, ◌⊎◌, ◌<◌, ◌≤◌, ℕ, Boo
 use Rattle.std.proofs.lemmas.Bool.{and_left, and_right, not_from_true, both_ways, false_from_ne_true}
 use Rattle.sm_base.specs.declared.numbers.Ident.{Ident}
 use Rattle.sm_model.specs.declared.event.Event.{Event}
+use Rattle.sm_defs.specs.Classes.{class_of}
 use Rattle.sm_defs.specs.Words.{Among, same_ident, up_to}
 use Rattle.sm_defs.specs.Volume.{Volume, Snapshot, no_volume, has, without, past}
 use Rattle.sm_defs.specs.Relationship.{Policy, is_mirror}
@@ -78,10 +79,10 @@ reverted_keeps w d b ss true e i h n = let (s, m, q) = copy_from_has ss i h in g
     go s q (inr k) = absurd (both_ways (needed w d i) (subst (λ y. needed w d y ≡ false) q (no_holder w d s.ident (none_held (holder w d) (past b ss) (reason_none _ e) s k))) n)
 
 published_keeps : (w : Up) (d : ℕ) (p : Policy) (ss : List Snapshot) (a : Snapshot) (m : Bool) → (i : Ident) → has ss i ≡ true → needed w d i ≡ true →
-    has (cond m (ss ++ a ∷ []) (retained p.rules (needed w d) (ss ++ a ∷ []))) i ≡ true
+    has (cond m (ss ++ a ∷ []) (retained p.rules (class_of p) (needed w d) (ss ++ a ∷ []))) i ≡ true
 published_keeps w d p ss a true i h n = let (s, m, q) = copy_from_has ss i h in has_from_copy _ i (s, among_left ss (a ∷ []) s m, q)
 published_keeps w d p ss a false i h n = let (s, m, q) = copy_from_has ss i h in
-    has_from_copy _ i (s, keeps_needed p.rules (needed w d) (ss ++ a ∷ []) s (among_left ss (a ∷ []) s m) (subst (λ y. needed w d y ≡ true) (sym q) n), q)
+    has_from_copy _ i (s, keeps_needed p.rules (class_of p) (needed w d) (ss ++ a ∷ []) s (among_left ss (a ∷ []) s m) (subst (λ y. needed w d y ≡ true) (sym q) n), q)
 
 abbrev Keeps : Up → Effect → Type 0
 Keeps w e = KeepsNeeded w e.world
