@@ -10,7 +10,7 @@ use Rattle.sm_model.specs.Answer.{answer}
 use Rattle.sm_model.specs.Steps.{Effect}
 use Rattle.sm_model.specs.Due.{IsStep}
 use Rattle.sm_model.specs.LegalRun.{IsDeed}
-use Rattle.sm_model.specs.Opened.{opened, reopened}
+use Rattle.sm_model.specs.Opened.{opened}
 use Rattle.sm_model.specs.TagsFit.{TagsFit}
 use Rattle.sm_model.specs.CopiesAgree.{CopiesAgree}
 use Rattle.sm_model.specs.Sound.{SoundUp}
@@ -23,6 +23,7 @@ use Rattle.laws_copies.proofs.Copies.{AllCome, stays, copies_come, copies_fresh}
 use Rattle.laws_copies.proofs.Brings as brings
 use Rattle.laws_copies.proofs.Brings.{Brings, copies, one_new, step_brings, deed_brings}
 use Rattle.laws_copies.proofs.TagsStay as tags
+use Rattle.sm_defs.specs.Operations as operations
 
 pub answers_keep_tags : (w : Up) (e : Event) (reached : Reached) → SoundUp w → answer w e ≡ Some (Ok reached) → TagsFit reached.world
 answers_keep_tags w e reached s i = tags.of_answer w reached.world e reached.reply s (from_answer (Is w e) (answer w e) reached (of_answer w e) i)
@@ -45,7 +46,7 @@ pub deeds_keep_copies : (e : Event) (d : Deed) → SoundUp d.old → IsDeed e d 
 deeds_keep_copies e d s i = brought_agree d.old d.new d.reply s.copies_agree (deed_brings e d s i)
 
 pub reopened_come : (w : Up) → AllCome w (opened w)
-reopened_come w v s (m, n) = let (u, k, e) = from_map reopened w.volumes v m in stays w u s (k, subst (λ y. Among y.snapshots s) e n)
+reopened_come w v s (m, n) = let (u, k, e) = from_map operations.opened w.volumes v m in stays w u s (k, subst (λ y. Among y.snapshots s) e n)
 
 pub restarts_keep_copies : (w : Up) → CopiesAgree w → CopiesAgree (opened w)
 restarts_keep_copies w k = copies_come w (opened w) (reopened_come w) k

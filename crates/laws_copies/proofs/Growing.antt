@@ -12,7 +12,7 @@ use Rattle.sm_model.specs.Standing.{EachTransfer}
 use Rattle.sm_model.specs.Answers.{Told}
 use Rattle.sm_model.specs.OfRelations.{has_a_half, new_relation}
 use Rattle.sm_model.specs.OfTransfers.{with_transfer}
-use Rattle.sm_model.specs.Opened.{opened, reopened, rejoined, restarted}
+use Rattle.sm_model.specs.Opened.{opened, rejoined, restarted}
 use Rattle.sm_model.specs.Running.{Running, IsRunning}
 use Rattle.sm_model.specs.Steps.{Effect, with_destination}
 use Rattle.sm_model.specs.Due.{StepKind, revert, finish, settle, prepare, prune, publish, checkpoint, ship, settled_relation, IsEffect, IsStep, by_transfer, by_tidy}
@@ -26,6 +26,7 @@ use Rattle.laws_cases.proofs.Needed.Needs.{set_cases, push_within, mapped_at}
 use Rattle.laws_cases.proofs.Answers.Changes as answers
 use Rattle.laws_cases.proofs.Answers.Changes.{IsChange, IsAnswer, Follows, Starts}
 use Rattle.laws_cases.proofs.Answers.Deeds.{IsAnswered, deed_cases}
+use Rattle.sm_defs.specs.Operations as operations
 
 -- a relationship's transfer has a new number, or stood before from the same source
 pub data FromOld (old : Up) (r : Relationship) (t : Transfer) : Type 0 where
@@ -184,8 +185,8 @@ length_mapped f (x ∷ xs) = let h = length_mapped f xs in omega arith
 
 pub of_opened : (w : Up) → Grown w (opened w)
 of_opened w = record {
-  count = length_mapped reopened w.volumes;
-  next = λ v l. rw (mapped_at reopened w.volumes no_volume v l) (omega arith);
+  count = length_mapped operations.opened w.volumes;
+  next = λ v l. rw (mapped_at operations.opened w.volumes no_volume v l) (omega arith);
   next_transfer = omega arith;
   next_relation = omega arith;
   transfers = λ r t m e. let (q, n, f) = from_map rejoined w.relations r m in

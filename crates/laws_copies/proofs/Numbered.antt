@@ -9,13 +9,13 @@ use Rattle.sm_defs.specs.World.{Up, volume_at}
 use Rattle.sm_model.specs.Standing.{Stands}
 use Rattle.sm_model.specs.CopiesAgree.{IsCopy}
 use Rattle.sm_model.specs.InRange.{is_made_name}
-use Rattle.sm_model.specs.Steps.{made_name}
 use Rattle.sm_model.specs.NumbersStand.{NumbersStand, NumberStands, IsNumbered, IsClients, IsTransfers, clients, transfers}
 use Rattle.sm_model.specs.Sound.{SoundUp}
 use Rattle.laws_transfer.proofs.Lists.{copy_from_has, has_from_copy}
 use Rattle.laws_copies.proofs.Growing.{FromOld, new_one, old_one, Grown}
 use Rattle.laws_copies.proofs.Spent.{KeepsReserved}
 use Rattle.laws_copies.proofs.Copies.{ComesFrom, AllCome}
+use Rattle.sm_defs.specs.Made.{made_name}
 
 -- ---- a copy of a snapshot that stood
 

@@ -10,12 +10,12 @@ use Rattle.sm_defs.specs.Volume.{Volume, Snapshot, ident_of, image_of, images_of
 use Rattle.sm_model.specs.Standing.{Stored}
 use Rattle.sm_model.specs.TagsFit.{TagsFitIn}
 use Rattle.sm_defs.specs.Operations.{first_of, with_snapshot}
-use Rattle.sm_model.specs.OfVolumes.{written, at_point}
-use Rattle.sm_model.specs.Opened.{reopened}
+use Rattle.sm_model.specs.OfVolumes.{written}
 use Rattle.laws_transfer.proofs.Lists.{among_append, from_map, among_map}
 use Rattle.sm_defs.specs.Thinned.{Thinned}
 use Rattle.laws_cases.proofs.Lists.Thinned.{thinned_among, thinned_map, thinned_differ}
 use Rattle.laws_cases.proofs.Lists.Frames.{get_set}
+use Rattle.sm_defs.specs.Operations as operations
 
 -- each image of u is one of v
 abbrev pub ImagesFrom : Volume → Volume → Type 0
@@ -31,20 +31,20 @@ fits_fewer v u h e d f = record {
   idents_differ = d;
 }
 
-pub pointed_from : (v : Volume) → ImagesFrom v (at_point v)
+pub pointed_from : (v : Volume) → ImagesFrom v (operations.settled v)
 pointed_from v image (inl e) = inl e
 pointed_from v image (inr (inl e)) = inl e
 pointed_from v image (inr (inr m)) = inr (inr m)
 
-pub pointed_fits : (v : Volume) → TagsFitIn v → TagsFitIn (at_point v)
-pointed_fits v f = fits_fewer v (at_point v) (pointed_from v) refl f.idents_differ f
+pub pointed_fits : (v : Volume) → TagsFitIn v → TagsFitIn (operations.settled v)
+pointed_fits v f = fits_fewer v (operations.settled v) (pointed_from v) refl f.idents_differ f
 
-pub reopened_from : (v : Volume) → ImagesFrom v (reopened v)
+pub reopened_from : (v : Volume) → ImagesFrom v (operations.opened v)
 reopened_from v image (inl e) = inr (inl e)
 reopened_from v image (inr m) = inr m
 
-pub reopened_fits : (v : Volume) → TagsFitIn v → TagsFitIn (reopened v)
-reopened_fits v f = fits_fewer v (reopened v) (reopened_from v) refl f.idents_differ f
+pub reopened_fits : (v : Volume) → TagsFitIn v → TagsFitIn (operations.opened v)
+reopened_fits v f = fits_fewer v (operations.opened v) (reopened_from v) refl f.idents_differ f
 
 pub thinned_from : (v : Volume) (ss : List Snapshot) → Thinned ss v.snapshots → ImagesFrom v (record v { snapshots = ss })
 thinned_from v ss t image (inl e) = inl e

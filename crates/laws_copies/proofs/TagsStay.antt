@@ -16,7 +16,7 @@ use Rattle.sm_model.specs.Sound.{SoundUp}
 use Rattle.sm_model.specs.Standing.{Stored}
 use Rattle.sm_defs.specs.Operations.{with_snapshot}
 use Rattle.sm_model.specs.OfVolumes.{client_snapshot, snapped}
-use Rattle.sm_model.specs.Opened.{opened, reopened}
+use Rattle.sm_model.specs.Opened.{opened}
 use Rattle.sm_model.specs.Running.{Running, IsRunning}
 use Rattle.sm_model.specs.Steps.{Effect, prepared_snapshot}
 use Rattle.sm_model.specs.Due.{StepKind, reserved_leg, IsEffect, IsStep, by_transfer, by_tidy, goes}
@@ -36,6 +36,7 @@ use Rattle.laws_copies.proofs.StepTags.{reverted_fits, published_fits, landing_f
 use Rattle.laws_cases.proofs.Answers.Changes as answers
 use Rattle.laws_cases.proofs.Answers.Changes.{IsChange, IsAnswer, WritableAt}
 use Rattle.laws_cases.proofs.Answers.Deeds.{IsAnswered, deed_cases}
+use Rattle.sm_defs.specs.Operations as operations
 
 -- ---- a new volume
 
@@ -120,4 +121,4 @@ of_deed e d s i = go (deed_cases e d i)
     go (inr a) = of_answer d.old d.new e a.tells s a.is
 
 pub of_opened : (w : Up) → TagsFit w → TagsFit (opened w)
-of_opened w h = each_mapped TagsFitIn reopened w.volumes (λ v m. reopened_fits v (h v m))
+of_opened w h = each_mapped TagsFitIn operations.opened w.volumes (λ v m. reopened_fits v (h v m))

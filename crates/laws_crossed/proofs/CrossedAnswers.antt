@@ -15,9 +15,8 @@ use Rattle.sm_defs.specs.Legs.{made_ident}
 use Rattle.sm_defs.specs.World.{Up, volume_at, policy_at, with_relation, no_relation}
 use Rattle.sm_model.specs.Answers.{goes_to}
 use Rattle.sm_model.specs.OfVolumes.{with_new_volume}
-use Rattle.sm_model.specs.OfPolicies.{with_rule}
 use Rattle.sm_model.specs.OfRelations.{has_a_half, without_destination, without_source, new_relation, with_new_relation, quiesced_as, with_halves}
-use Rattle.sm_model.specs.OfTransfers.{with_transfer, without_transfer, settled, halted, resumed, new_transfer, next_legs, as_reverted, with_next_transfer}
+use Rattle.sm_model.specs.OfTransfers.{with_transfer, without_transfer, halted, resumed, new_transfer, next_legs, as_reverted, with_next_transfer}
 use Rattle.sm_model.specs.Crossed.{IsReservedLeg, CrossedRelation, CrossedTransfer, transfer_number, Crossed}
 use Rattle.sm_model.specs.Sound.{SoundUp}
 use Rattle.laws_transfer.proofs.Lists.{among_append, among_filter}
@@ -35,6 +34,8 @@ use Rattle.laws_crossed.proofs.CrossedLegs.{legs_differ, legs_at_source, common_
 use Rattle.laws_cases.proofs.Answers.Plainly.{not_both}
 use Rattle.laws_cases.proofs.Moves.PoliciesStay.{aside_policies}
 use Rattle.laws_cases.proofs.Steps.LegsThere.{leg_on_both}
+use Rattle.sm_defs.specs.Rules.{with_rule}
+use Rattle.sm_defs.specs.Progress.{settled}
 
 -- ---- volumes, policies and the clock
 

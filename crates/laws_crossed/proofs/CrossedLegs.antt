@@ -5,11 +5,12 @@ use Rattle.sm_base.specs.declared.numbers.Ident.{Ident}
 use Rattle.sm_base.specs.declared.numbers.Kind.{Kind}
 use Rattle.sm_base.specs.declared.numbers.Kind.TheVariants.{Rw, Dp}
 use Rattle.sm_base.specs.declared.numbers.TransferKind.{TransferKind}
+use Rattle.sm_defs.specs.Classes.{has_class}
 use Rattle.sm_defs.specs.Words.{Among, KeysDiffer, after}
 use Rattle.sm_defs.specs.Common.{common}
 use Rattle.sm_defs.specs.Volume.{Snapshot, ident_of, idents, has, no_volume}
 use Rattle.sm_defs.specs.Relationship.{Relationship, is_mirror, sends_all}
-use Rattle.sm_defs.specs.Legs.{made_ident, mirror_legs, vault_legs, candidates, after_base, only_newest, has_rule}
+use Rattle.sm_defs.specs.Legs.{made_ident, mirror_legs, vault_legs, candidates, after_base, only_newest}
 use Rattle.sm_defs.specs.Thinned.{Thinned, end, kept, left_out}
 use Rattle.sm_defs.specs.World.{Up, volume_at, policy_at}
 use Rattle.sm_model.specs.OfTransfers.{next_legs, new_transfer, source_of}
@@ -97,6 +98,6 @@ legs_differ w r base there s m = go (is_mirror (policy_at w r.policy).kind)
         (t, from_base base (volume_at w r.source).snapshots t (thinned_among (filter_thins (λ y. not (has there y.ident)) (after_base base (volume_at w r.source).snapshots)) t k), e)) ∙ made_lacked w (volume_at w r.source) r.source s at)
 
     go : (b : Bool) → Differ (cond b (mirror_legs (sends_all (policy_at w r.policy)) (volume_at w r.source).kind (made_ident r.source w.next_transfer) (candidates base (volume_at w r.source).snapshots there))
-        (vault_legs (policy_at w r.policy).rules (candidates base (volume_at w r.source).snapshots there))).idents
+        (vault_legs (policy_at w r.policy) (candidates base (volume_at w r.source).snapshots there))).idents
     go true = mirror_differ (sends_all (policy_at w r.policy)) (volume_at w r.source).kind (made_ident r.source w.next_transfer) (candidates base (volume_at w r.source).snapshots there) differ unmade
-    go false = idents_differ _ (thinned_differ ident_of (filter_thins (has_rule (policy_at w r.policy).rules) (candidates base (volume_at w r.source).snapshots there)) differ)
+    go false = idents_differ _ (thinned_differ ident_of (filter_thins (has_class (policy_at w r.policy)) (candidates base (volume_at w r.source).snapshots there)) differ)

@@ -9,7 +9,7 @@ use Rattle.sm_defs.specs.World.{Up, volume_at}
 use Rattle.sm_model.specs.declared.event.Event.{Event}
 use Rattle.sm_model.specs.World.{Deed}
 use Rattle.sm_model.specs.LegalRun.{IsDeed, IsStepDeed}
-use Rattle.sm_model.specs.Opened.{opened, reopened, rejoined, restarted}
+use Rattle.sm_model.specs.Opened.{opened, rejoined, restarted}
 use Rattle.sm_model.specs.Crossed.{CrossedRelation, CrossedTransfer, transfer_number, Crossed}
 use Rattle.sm_model.specs.Sound.{SoundUp}
 use Rattle.laws_transfer.proofs.Lists.{from_map}
@@ -21,6 +21,7 @@ use Rattle.laws_crossed.proofs.CrossedParts.{Differ, dest_key, to_apart, crossed
 use Rattle.laws_crossed.proofs.CrossedKeys.{keys_mapped}
 use Rattle.laws_crossed.proofs.CrossedSteps.{steps_keep_crossed}
 use Rattle.laws_crossed.proofs.CrossedAnswers.{of_move}
+use Rattle.sm_defs.specs.Operations as operations
 
 pub deeds_keep_crossed : (e : Event) (d : Deed) → SoundUp d.old → IsDeed e d → Crossed d.new
 deeds_keep_crossed e d s i = go (deed_moves e d i)
@@ -32,15 +33,15 @@ deeds_keep_crossed e d s i = go (deed_moves e d i)
 -- ---- restarts
 
 abbrev Reopened : Up → Up
-Reopened w = record w { volumes = map reopened w.volumes }
+Reopened w = record w { volumes = map operations.opened w.volumes }
 
-reopened_at : (w : Up) (i : ℕ) → i < length w.volumes → volume_at (Reopened w) i ≡ reopened (volume_at w i)
-reopened_at w i l = mapped_at reopened w.volumes no_volume i l
+reopened_at : (w : Up) (i : ℕ) → i < length w.volumes → volume_at (Reopened w) i ≡ operations.opened (volume_at w i)
+reopened_at w i l = mapped_at operations.opened w.volumes no_volume i l
 
 reopened_crossed : (w : Up) → Crossed w → Crossed (Reopened w)
 reopened_crossed w c = crossed_volumes w (Reopened w) (record {
   relations = refl;
-  volumes = let e = mapped_length reopened w.volumes in omega arith;
+  volumes = let e = mapped_length operations.opened w.volumes in omega arith;
   policies = omega arith;
   next_relation = omega arith;
   next_transfer = omega arith;

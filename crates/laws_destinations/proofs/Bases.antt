@@ -6,6 +6,7 @@ use Rattle.std.specs.Prelude.{slice_set}
 use Rattle.sm_base.specs.declared.numbers.Ident.{Ident}
 use Rattle.sm_base.specs.declared.numbers.Kind.TheVariants.{Rw, Dp}
 use Rattle.sm_defs.specs.Words.{Among, KeysDiffer}
+use Rattle.sm_defs.specs.Progress as progress
 use Rattle.sm_defs.specs.Volume.{Volume, Snapshot, ident_of, has, no_volume, new_volume}
 use Rattle.sm_defs.specs.Relationship.{Relationship, Transfer, legs_of}
 use Rattle.sm_defs.specs.Legs.{made_ident}
@@ -159,10 +160,10 @@ module _ (w : Up) (r : Relationship) (s : SoundUp w) (m : Among w.relations r) w
   turned q (quiesces flag) = shows_same at r (relations.quiesced_as flag r) (λ x. x) refl (λ b. refl) shown
   turned q (resumes t e dp) = shows_same at r (transfers.with_transfer r (transfers.resumed t)) (λ x. x) refl (λ b. sym (ap (λ o. newest_published at.snapshots b (legs_of o)) e)) shown
   turned q (ends t e n) = shows_same at r (transfers.without_transfer r) (λ x. x) refl (λ b. sym (ap (λ o. newest_published at.snapshots b (legs_of o)) e ∙ no_first at.snapshots b t.legs n)) shown
-  turned q (ends_settled t i later e l h) = settles (transfers.without_transfer (transfers.settled r t i later)) t i later e l h (λ x. x) refl (λ j k. absurd k)
+  turned q (ends_settled t i later e l h) = settles (transfers.without_transfer (progress.settled r t i later)) t i later e l h (λ x. x) refl (λ j k. absurd k)
   turned q (halts t i later e l h) = shows_same at r (transfers.with_transfer r (transfers.halted t)) (λ x. x) refl (λ b. sym (ap (λ o. newest_published at.snapshots b (legs_of o)) e)) shown
   turned q (halts_settled t i later e l some h) =
-      settles (transfers.with_transfer (transfers.settled r t i later) (transfers.halted (record t { legs = later; checkpoint = 0; landed = [] }))) t i later e l h (λ x. x) refl
+      settles (transfers.with_transfer (progress.settled r t i later) (transfers.halted (record t { legs = later; checkpoint = 0; landed = [] }))) t i later e l h (λ x. x) refl
       (λ j k. (s.transfers_stand r t m e).ahead j (subst (λ ks. Among (transfers_stand.later ks) j) (sym l) k))
 
   started : (q : Relationship) → Start w r q → StandsAtBase w q

@@ -8,6 +8,8 @@ use Rattle.sm_base.specs.declared.numbers.Ident.{Ident}
 use Rattle.sm_base.specs.declared.numbers.Kind.TheVariants.{Rw, Dp}
 use Rattle.sm_model.specs.declared.event.Event.{Event}
 use Rattle.sm_defs.specs.Words.{Among, KeysDiffer, same_ident, up_to}
+use Rattle.sm_defs.specs.Operations as operations
+use Rattle.sm_defs.specs.Classes.{class_of}
 use Rattle.sm_defs.specs.Thinned.{Thinned}
 use Rattle.sm_defs.specs.Volume.{Volume, Snapshot, is_rw, ident_of, has, no_volume, without}
 use Rattle.sm_defs.specs.Relationship.{Relationship, Transfer, is_mirror, is_resync, legs_of}
@@ -22,7 +24,7 @@ use Rattle.sm_model.specs.Running.{Running, IsRunning}
 use Rattle.sm_model.specs.Steps.{Effect, with_destination, reverted, snapshot_of, arrived, list_published, published}
 use Rattle.sm_model.specs.Due.{StepKind, IsEffect, IsStep, by_transfer, by_tidy, is_reverting, settled_relation, goes}
 use Rattle.sm_model.specs.LegalRun.{IsDeed, IsStepDeed}
-use Rattle.sm_model.specs.Opened.{opened, reopened, rejoined, restarted}
+use Rattle.sm_model.specs.Opened.{opened, rejoined, restarted}
 use Rattle.sm_model.specs.Standing.{EachVolume}
 use Rattle.sm_model.specs.Crossed.{destination_of, with_destination_half}
 use Rattle.sm_model.specs.DestinationsStand.{StandsAtSnapshot, newest_published, StandsAtBase, DestinationsStand}
@@ -255,7 +257,7 @@ module _ (w : Up) (k : ℕ) (x : Running) (s : SoundUp w) (r : IsRunning w k x) 
     leg_kept = go (is_mirror x.policy.kind) refl
       where
         go : (m : Bool) → is_mirror x.policy.kind ≡ m → has (list_published w x (arrived x leg)) leg.ident ≡ true
-        go true m = ap (λ c. has (cond c (x.destination.snapshots ++ arrived x leg ∷ []) (retained x.policy.rules (needed w x.relation.destination) (x.destination.snapshots ++ arrived x leg ∷ []))) leg.ident) m ∙
+        go true m = ap (λ c. has (cond c (x.destination.snapshots ++ arrived x leg ∷ []) (retained x.policy.rules (class_of x.policy) (needed w x.relation.destination) (x.destination.snapshots ++ arrived x leg ∷ []))) leg.ident) m ∙
             has_from_copy (x.destination.snapshots ++ arrived x leg ∷ []) leg.ident (arrived x leg, among_right x.destination.snapshots (arrived x leg ∷ []) _ (inl refl), refl)
         go false m = vault_keeps_leg w k x leg (is_mirror x.policy.kind) s r a m m
 
@@ -313,9 +315,9 @@ deeds_keep_destinations e d s i = go (deed_moves e d i)
 
 -- ---- restarts
 
-reopened_stands : (v : Volume) → StandsIfReadOnly v → StandsIfReadOnly (reopened v)
+reopened_stands : (v : Volume) → StandsIfReadOnly v → StandsIfReadOnly (operations.opened v)
 reopened_stands v h d = record {
-  blank = λ z p b t. (h d).blank z p b (stored_from v (reopened v) (reopened_from v) p b t);
+  blank = λ z p b t. (h d).blank z p b (stored_from v (operations.opened v) (reopened_from v) p b t);
   still = λ n. refl;
   at = λ n. let (t, m, e) = (h d).at n in (t, m, (h d).still n ∙ e);
 }
@@ -326,13 +328,13 @@ rejoined_legs (Some t) = refl
 
 pub restarts_keep_destinations : (w : Up) → SoundUp w → DestinationsStand (opened w)
 restarts_keep_destinations w s = record {
-  volumes = each_mapped StandsIfReadOnly reopened w.volumes (λ v m. reopened_stands v (s.destinations_stand.volumes v m));
+  volumes = each_mapped StandsIfReadOnly operations.opened w.volumes (λ v m. reopened_stands v (s.destinations_stand.volumes v m));
   bases = λ r m. let (q, n, e) = from_map rejoined w.relations r m in subst (StandsAtBase (opened w)) (sym e) (each q n);
 }
   where
     each : (q : Relationship) → Among w.relations q → StandsAtBase (opened w) (rejoined q)
     each q n =
         let within = (s.crossed.relations q n).destination in let v : Volume = volume_at w q.destination in
-        subst (λ u. Shows u (rejoined q)) (sym (mapped_at reopened w.volumes no_volume q.destination within)) (λ b t half dp e m i.
+        subst (λ u. Shows u (rejoined q)) (sym (mapped_at operations.opened w.volumes no_volume q.destination within)) (λ b t half dp e m i.
         (s.destinations_stand.volumes v (among_get_or w.volumes q.destination no_volume within) dp).still (λ z. subst (λ ss. Among ss t) z m) ∙
         s.destinations_stand.bases q n b t half dp e m (i ∙ ap (newest_published v.snapshots b) (rejoined_legs q.transfer)))

@@ -8,6 +8,7 @@ use Rattle.sm_base.specs.declared.numbers.TransferKind.{TransferKind}
 use Rattle.sm_base.specs.declared.numbers.TransferKind.TheVariants.{Resync}
 use Rattle.sm_base.specs.declared.refusal.Reason.{Reason}
 use Rattle.sm_defs.specs.Words.{Among, KeysDiffer, Found, found, same_ident, up_to, after}
+use Rattle.sm_defs.specs.Progress as progress
 use Rattle.sm_defs.specs.Common.{common}
 use Rattle.sm_defs.specs.Volume.{Volume, Snapshot, ident_of, has, numbers, no_volume, new_volume, without}
 use Rattle.sm_defs.specs.Relationship.{Relationship, Transfer, is_mirror}
@@ -24,7 +25,7 @@ use Rattle.sm_model.specs.Running.{Running, IsRunning}
 use Rattle.sm_model.specs.Steps.{Effect, with_destination, interrupted, reverted, prepared_snapshot, arrived, list_published, published}
 use Rattle.sm_model.specs.Due.{StepKind, IsEffect, IsStep, by_transfer, by_tidy, reserved_leg, settled_relation, goes, insert_landed, is_tidied}
 use Rattle.sm_model.specs.LegalRun.{IsDeed, IsStepDeed}
-use Rattle.sm_model.specs.Opened.{opened, reopened, rejoined, restarted}
+use Rattle.sm_model.specs.Opened.{opened, rejoined, restarted}
 use Rattle.sm_model.specs.Crossed.{IsReservedLeg}
 use Rattle.sm_model.specs.TransfersStand.{later, IsFirst, TransferStands, TransfersStand}
 use Rattle.sm_model.specs.Sound.{SoundUp}
@@ -254,12 +255,12 @@ module _ (w : Up) (r : Relationship) (s : SoundUp w) (m : Among w.relations r) w
   turned q (resumes t e dp) = one_of (StandsIn w) (transfers.with_transfer r (transfers.resumed t)) (transfers.resumed t) refl
       (stands_on at r (transfers.with_transfer r (transfers.resumed t)) t (transfers.resumed t) refl refl refl (λ x y. (x, no_landing t.checkpoint x)) (λ _. refl) (s.transfers_stand r t m e))
   turned q (ends t e n) = none_of (StandsIn w) (transfers.without_transfer r) refl
-  turned q (ends_settled t i rest e l h) = none_of (StandsIn w) (transfers.without_transfer (transfers.settled r t i rest)) refl
+  turned q (ends_settled t i rest e l h) = none_of (StandsIn w) (transfers.without_transfer (progress.settled r t i rest)) refl
   turned q (halts t i rest e l h) = one_of (StandsIn w) (transfers.with_transfer r (transfers.halted t)) (transfers.halted t) refl
-      (stands_on at r (transfers.with_transfer r (transfers.halted t)) t (transfers.halted t) refl refl refl (λ x y. (ap transfers.landed_prefix y, ap (λ ks. numbers 0 (transfers.landed_prefix ks)) y)) (λ _. refl) (s.transfers_stand r t m e))
+      (stands_on at r (transfers.with_transfer r (transfers.halted t)) t (transfers.halted t) refl refl refl (λ x y. (ap progress.landed_prefix y, ap (λ ks. numbers 0 (progress.landed_prefix ks)) y)) (λ _. refl) (s.transfers_stand r t m e))
   turned q (halts_settled t i rest e l some h) = let u : Transfer = transfers.halted (record t { legs = rest; checkpoint = 0; landed = [] }) in
-      one_of (StandsIn w) (transfers.with_transfer (transfers.settled r t i rest) u) u refl
-      (stands_settled at r t u (transfers.with_transfer (transfers.settled r t i rest) u) i rest l refl refl refl refl refl (λ _. refl) (s.transfers_stand r t m e))
+      one_of (StandsIn w) (transfers.with_transfer (progress.settled r t i rest) u) u refl
+      (stands_settled at r t u (transfers.with_transfer (progress.settled r t i rest) u) i rest l refl refl refl refl refl (λ _. refl) (s.transfers_stand r t m e))
 
   started : (q : Relationship) → Start w r q → OfOne (StandsIn w) q
   started q (starts kind k none dp first some) = one_of (StandsIn w) (transfers.with_transfer r (transfers.new_transfer w.next_transfer kind (transfers.next_legs w r r.base at.snapshots)))
@@ -387,7 +388,7 @@ of_effect w k x kind e s r (due_settle j is a f) i = subst By (sym i) (settles w
 of_effect w k x kind e s r (due_prepare a f) i = subst By (sym i) (going By w k x _ _ (stops w k x s r) (λ o. prepares w k x s r a f (rw_if x.source.kind (no_reason _ _ _ o).0)))
 of_effect w k x kind e s r (due_prune leg a b) i = subst By (sym i) (going By w k x _ _ (stops w k x s r) (λ _. prunes w k x s r leg a))
 of_effect w k x kind e s r (due_publish leg a b c) i = subst By (sym i) (going By w k x _ _ (stops w k x s r) (λ _. publishes w k x s r leg a))
-of_effect w k x kind e s r (due_checkpoint leg a b c d) i = subst By (sym i) (ships w k x s r leg a (record x.transfer { checkpoint = transfers.landed_prefix x.transfer.landed }) refl refl)
+of_effect w k x kind e s r (due_checkpoint leg a b c d) i = subst By (sym i) (ships w k x s r leg a (record x.transfer { checkpoint = progress.landed_prefix x.transfer.landed }) refl refl)
 of_effect w k x kind e s r (due_ship leg a b c d) (n, m, i) = subst By (sym i) (going By w k x _ _ (stops w k x s r) (λ _. ships w k x s r leg a (record x.transfer { landed = insert_landed n x.transfer.landed }) refl refl))
 
 of_step : (w : Up) (e : Effect) → SoundUp w → IsStep w e → By e
@@ -403,13 +404,13 @@ deeds_keep_transfers e d s i = go (deed_moves e d i)
 
 -- ---- restarts
 
-reopened_begins : (v : Volume) (q : Relationship) (o : Option Transfer) → ((t : Transfer) → o ≡ Some t → TransferStands v q t) → (t : Transfer) → restarted o ≡ Some t → TransferStands (reopened v) (rejoined q) t
+reopened_begins : (v : Volume) (q : Relationship) (o : Option Transfer) → ((t : Transfer) → o ≡ Some t → TransferStands v q t) → (t : Transfer) → restarted o ≡ Some t → TransferStands (operations.opened v) (rejoined q) t
 reopened_begins v q None h t e = absurd (cc)
-reopened_begins v q (Some u) h t e = subst (TransferStands (reopened v) (rejoined q)) (same_Some _ t e)
-    (stands_fewer v (reopened v) (rejoined q) _ (λ z. z) (λ s m. m) (stands_on v q (rejoined q) u _ refl refl refl (λ a b. (a, no_landing u.checkpoint a)) (λ _. refl) (h u refl)))
+reopened_begins v q (Some u) h t e = subst (TransferStands (operations.opened v) (rejoined q)) (same_Some _ t e)
+    (stands_fewer v (operations.opened v) (rejoined q) _ (λ z. z) (λ s m. m) (stands_on v q (rejoined q) u _ refl refl refl (λ a b. (a, no_landing u.checkpoint a)) (λ _. refl) (h u refl)))
 
 pub restarts_keep_transfers : (w : Up) → SoundUp w → TransfersStand (opened w)
 restarts_keep_transfers w s r t m e = let (q, n, f) = from_map rejoined w.relations r m in
     subst (λ p. TransferStands (volume_at (opened w) p.destination) p t) (sym f)
-    (subst (λ v. TransferStands v (rejoined q) t) (sym (mapped_at reopened w.volumes no_volume q.destination (s.crossed.relations q n).destination))
+    (subst (λ v. TransferStands v (rejoined q) t) (sym (mapped_at operations.opened w.volumes no_volume q.destination (s.crossed.relations q n).destination))
     (reopened_begins (volume_at w q.destination) q q.transfer (λ u g. s.transfers_stand q u n g) t (ap (λ y. y.transfer) (sym f) ∙ e)))

@@ -4,15 +4,15 @@ use Rattle.std.proofs.lemmas.Option.{same_Some}
 use Rattle.sm_base.specs.declared.numbers.Ident.{Ident}
 use Rattle.sm_model.specs.declared.reply.Reply.{Reply}
 use Rattle.sm_model.specs.declared.reply.Reply.TheVariants as replies
+use Rattle.sm_defs.specs.Classes.{class_of}
 use Rattle.sm_defs.specs.Words.{Among, KeysDiffer, same_ident, up_to}
-use Rattle.sm_defs.specs.Volume.{Volume, Snapshot, no_volume, ident_of, has, without}
+use Rattle.sm_defs.specs.Volume.{Volume, Snapshot, no_volume, ident_of, has, without, past}
 use Rattle.sm_defs.specs.Relationship.{Relationship, Transfer, is_mirror}
 use Rattle.sm_defs.specs.Retention.{retained}
 use Rattle.sm_defs.specs.Needed.{needed}
 use Rattle.sm_defs.specs.World.{Up, volume_at, with_volume}
 use Rattle.sm_model.specs.Formed.{NumbersAscend}
 use Rattle.sm_model.specs.Sound.{SoundUp}
-use Rattle.sm_model.specs.OfTransfers.{past}
 use Rattle.sm_model.specs.Drops.{NamedAt, NamedByRevert, NamedByPrune, NamedByRetention, NamedByTidy, NamedByStep}
 use Rattle.sm_model.specs.Running.{Running, running_in, IsRunning}
 use Rattle.sm_base.specs.declared.refusal.Reason.{Reason}
@@ -102,7 +102,7 @@ has_pushed : (ss : List Snapshot) (s : Snapshot) (i : Ident) → has ss i ≡ tr
 has_pushed ss s i h = let (t, m, q) = copy_from_has ss i h in has_from_copy (ss ++ s ∷ []) i (t, among_left ss (s ∷ []) t m, q)
 
 publish_names : (w : Up) (x : Running) (leg : Snapshot) (i : Ident) (m : Bool) → is_mirror x.policy.kind ≡ m → snapshot_of x.source.snapshots (Some leg.ident) ≡ Some leg →
-    (has x.destination.snapshots i ≡ true) → has (list_published w x (arrived x leg)) i ≡ false → has (cond m (x.destination.snapshots ++ arrived x leg ∷ []) (retained x.policy.rules (needed w x.relation.destination) (x.destination.snapshots ++ arrived x leg ∷ []))) i ≡ false →
+    (has x.destination.snapshots i ≡ true) → has (list_published w x (arrived x leg)) i ≡ false → has (cond m (x.destination.snapshots ++ arrived x leg ∷ []) (retained x.policy.rules (class_of x.policy) (needed w x.relation.destination) (x.destination.snapshots ++ arrived x leg ∷ []))) i ≡ false →
     NamedByRetention w leg.ident i x
 publish_names w x leg i true e f h n l = absurd (true≢false (sym (has_pushed x.destination.snapshots (arrived x leg) i h) ∙ l))
 publish_names w x leg i false e f h n l = (e, leg, f, has_pushed x.destination.snapshots (arrived x leg) i h, n)

@@ -13,10 +13,10 @@ use Rattle.sm_model.specs.Answers.{Reached, Told}
 use Rattle.sm_model.specs.Answer.{answer}
 use Rattle.sm_model.specs.OfVolumes.{client_snapshot}
 use Rattle.sm_model.specs.Running.{Running, IsRunning}
-use Rattle.sm_model.specs.Steps.{Effect, family_of_transfer, is_elsewhere}
+use Rattle.sm_model.specs.Steps.{Effect, is_elsewhere}
 use Rattle.sm_model.specs.Due.{StepKind, IsEffect, IsStep, by_transfer, by_tidy}
 use Rattle.sm_model.specs.LegalRun.{IsStepDeed, IsDeed}
-use Rattle.sm_model.specs.Opened.{opened, reopened}
+use Rattle.sm_model.specs.Opened.{opened}
 use Rattle.sm_model.specs.Standing.{Stands, EachVolume}
 use Rattle.sm_model.specs.FamiliesAgree.{FamiliesAgree}
 use Rattle.sm_model.specs.FamiliesStand.{IsFamily}
@@ -35,6 +35,8 @@ use Rattle.laws_cases.proofs.Steps.Parties.{relation_stands, source_stands, dest
 use Rattle.laws_cases.proofs.Steps.DueCases.{IsDue, due_revert, due_finish, due_settle, due_prepare, due_prune, due_publish, due_checkpoint, due_ship, kind_is_due, tidy_within}
 use Rattle.laws_copies.proofs.Growing as growing
 use Rattle.laws_copies.proofs.Growing.{Grown}
+use Rattle.sm_defs.specs.Made.{family_of_transfer}
+use Rattle.sm_defs.specs.Operations as operations
 
 -- ---- copies in one family
 
@@ -108,7 +110,7 @@ pub answers_keep_families : (w : Up) (e : Event) (reached : Reached) → SoundUp
 answers_keep_families w e reached s i = answered_agree w reached.world e reached.reply s (from_answer (Is w e) (answer w e) reached (of_answer w e) i)
 
 reopened_in_family : (w : Up) → AllInFamily w (opened w)
-reopened_in_family w v s (m, n) = let (u, k, e) = from_map reopened w.volumes v m in of_old w u v s k (subst (λ y. Among y.snapshots s) e n) (ap (λ y. y.family) e)
+reopened_in_family w v s (m, n) = let (u, k, e) = from_map operations.opened w.volumes v m in of_old w u v s k (subst (λ y. Among y.snapshots s) e n) (ap (λ y. y.family) e)
 
 pub restarts_keep_families : (w : Up) → FamiliesAgree w → FamiliesAgree (opened w)
 restarts_keep_families w k = families_come w (opened w) (reopened_in_family w) k
@@ -187,4 +189,4 @@ deeds_keep_given e d s i = go (deed_cases e d i)
     go (inr a) = of_answered d.old d.new e a.tells s a.is
 
 pub restarts_keep_given : (w : Up) → EachVolume (λ v. IsFamily w v.family) w → EachVolume (λ v. IsFamily (opened w) v.family) (opened w)
-restarts_keep_given w h = each_mapped (λ v. IsFamily (opened w) v.family) reopened w.volumes (λ v m. family_grows (growing.of_opened w) (h v m))
+restarts_keep_given w h = each_mapped (λ v. IsFamily (opened w) v.family) operations.opened w.volumes (λ v m. family_grows (growing.of_opened w) (h v m))

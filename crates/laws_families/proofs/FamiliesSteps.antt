@@ -18,7 +18,7 @@ use Rattle.sm_model.specs.World.{Deed}
 use Rattle.sm_defs.specs.Operations.{with_snapshot}
 use Rattle.sm_model.specs.Answer.{answer}
 use Rattle.sm_model.specs.Running.{Running, IsRunning}
-use Rattle.sm_model.specs.Steps.{Effect, with_destination, family_of_transfer, reverted, prepared_snapshot, bases, arrived, is_elsewhere, published}
+use Rattle.sm_model.specs.Steps.{Effect, with_destination, reverted, prepared_snapshot, bases, arrived, is_elsewhere, published}
 use Rattle.sm_model.specs.Due.{StepKind, IsEffect, IsStep, by_transfer, by_tidy, reserved_leg, has_other_family, goes, is_tidied}
 use Rattle.sm_model.specs.LegalRun.{IsDeed}
 use Rattle.sm_model.specs.FamiliesAgree.{FamiliesAgree}
@@ -35,6 +35,7 @@ use Rattle.laws_cases.proofs.Steps.Landing.{reverted_thins}
 use Rattle.laws_copies.proofs.Brings.{reserved_fresh}
 use Rattle.laws_copies.proofs.StepTags.{published_among}
 use Rattle.laws_families.proofs.FamiliesStay.{answered_agree, thinned_in_family, one_in_family, families_come, families_fresh}
+use Rattle.sm_defs.specs.Made.{family_of_transfer}
 
 -- ---- a volume that was changed
 

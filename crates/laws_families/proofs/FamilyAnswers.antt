@@ -11,7 +11,7 @@ use Rattle.sm_defs.specs.Relationship.{Relationship, Transfer, is_mirror}
 use Rattle.sm_defs.specs.World.{Up, volume_at, policy_at, with_volume}
 use Rattle.sm_model.specs.OfVolumes.{client_snapshot}
 use Rattle.sm_model.specs.OfRelations.{has_a_half, without_destination, without_source, new_relation, quiesced_as}
-use Rattle.sm_model.specs.OfTransfers.{with_transfer, without_transfer, settled, halted, resumed}
+use Rattle.sm_model.specs.OfTransfers.{with_transfer, without_transfer, halted, resumed}
 use Rattle.sm_model.specs.Standing.{EachTransfer}
 use Rattle.sm_model.specs.FamiliesStand.{IsBaseOrFirst, IsVaultTo, FamilyStands}
 use Rattle.sm_model.specs.Sound.{SoundUp}
@@ -28,6 +28,7 @@ use Rattle.laws_cases.proofs.Answers.Plainly.{not_both}
 use Rattle.laws_cases.proofs.Moves.PoliciesStay.{aside_policies}
 use Rattle.laws_cases.proofs.Steps.LegsThere.{leg_on_both}
 use Rattle.laws_copies.proofs.Fresh.{leg_not_clients}
+use Rattle.sm_defs.specs.Progress.{settled}
 
 abbrev pub AllStand : Up → Type 0
 AllStand w = EachTransfer (FamilyStands w) w

@@ -8,7 +8,6 @@ use Rattle.sm_defs.specs.Volume.{Volume, has, no_volume}
 use Rattle.sm_defs.specs.Relationship.{Policy, Relationship, Transfer, is_mirror}
 use Rattle.sm_defs.specs.World.{Up, volume_at, policy_at, no_policy}
 use Rattle.sm_model.specs.OfVolumes.{with_new_volume}
-use Rattle.sm_model.specs.Steps.{family_of_transfer}
 use Rattle.sm_model.specs.Crossed.{CrossedRelation}
 use Rattle.sm_model.specs.FamiliesStand.{IsFamily, IsBaseOrFirst, IsVaultTo, FamilyStands}
 use Rattle.sm_model.specs.Sound.{SoundUp}
@@ -16,6 +15,7 @@ use Rattle.laws_transfer.proofs.Lists.{among_append}
 use Rattle.laws_cases.proofs.Lists.Members.{among_get_or}
 use Rattle.laws_cases.proofs.Needed.Needs.{push_within, within_or_beyond}
 use Rattle.laws_families.proofs.FamilyParts.{IsIdle}
+use Rattle.sm_defs.specs.Made.{family_of_transfer}
 
 -- ---- policies keep their kinds
 

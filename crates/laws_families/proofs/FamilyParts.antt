@@ -9,13 +9,13 @@ use Rattle.sm_defs.specs.Needed.{needed}
 use Rattle.sm_defs.specs.Volume.{Volume, has, no_volume}
 use Rattle.sm_defs.specs.Relationship.{Relationship, Transfer, is_mirror}
 use Rattle.sm_defs.specs.World.{Up, volume_at, policy_at, with_volume}
-use Rattle.sm_model.specs.Steps.{family_of_transfer}
 use Rattle.sm_model.specs.FamiliesStand.{IsBaseOrFirst, IsVaultTo, InOwnFamily, FamilyStands}
 use Rattle.sm_model.specs.Sound.{SoundUp}
 use Rattle.laws_cases.specs.Needs.{KeepsNeeded}
 use Rattle.laws_cases.proofs.Lists.Members.{among_set, length_set}
 use Rattle.laws_cases.proofs.Needed.Needs.{set_cases}
 use Rattle.laws_cases.proofs.Needed.NeededHere.{base_at_source, leg_at_source}
+use Rattle.sm_defs.specs.Made.{family_of_transfer}
 
 -- it has no base and no transfer
 abbrev pub IsIdle : Relationship → Type 0

@@ -3,6 +3,7 @@ use Rattle.std.proofs.Common.{◌≡◌, ◌≢◌, ◌⊎◌, ℕ, Bool, true, 
 use Rattle.std.proofs.lemmas.Bool.{cases_eq}
 use Rattle.sm_base.specs.declared.numbers.Ident.{Ident}
 use Rattle.sm_base.specs.declared.numbers.Kind.TheVariants.{Rw}
+use Rattle.sm_defs.specs.Classes.{class_of}
 use Rattle.sm_defs.specs.Needed.{needed}
 use Rattle.sm_defs.specs.Retention.{retained}
 use Rattle.sm_defs.specs.Words.{Among}
@@ -10,7 +11,7 @@ use Rattle.sm_defs.specs.Volume.{Volume, Snapshot, has}
 use Rattle.sm_defs.specs.Relationship.{Relationship, Transfer, is_mirror}
 use Rattle.sm_defs.specs.World.{Up, volume_at}
 use Rattle.sm_model.specs.Running.{Running, IsRunning}
-use Rattle.sm_model.specs.Steps.{family_of_transfer, with_destination, reverted, snapshot_of, is_elsewhere, arrived, published, list_published}
+use Rattle.sm_model.specs.Steps.{with_destination, reverted, snapshot_of, is_elsewhere, arrived, published, list_published}
 use Rattle.sm_model.specs.Due.{has_other_family}
 use Rattle.sm_model.specs.TransfersStand.{later}
 use Rattle.sm_model.specs.FamiliesStand.{IsBaseOrFirst, InOwnFamily, FamilyStands}
@@ -24,6 +25,7 @@ use Rattle.laws_families.proofs.FamilyParts.{Took, family_volume}
 use Rattle.laws_families.proofs.FamilyAnswers.{AllStand}
 use Rattle.laws_families.proofs.FamilyTakes.{family_taken, lacks_by, filled_has, based, other_number}
 use Rattle.laws_cases.proofs.Steps.RunningTransfers.{here, crossed, transfer, at_x, source_x, policy_x, not_vault, mirrors_none, own_here, same_family}
+use Rattle.sm_defs.specs.Made.{family_of_transfer}
 
 base_or_first : (q : Relationship) (is : List Ident) (i : Ident) → q.base ≡ Some i → IsBaseOrFirst q is i
 base_or_first q [] i e = e
@@ -143,6 +145,6 @@ module _ (w : Up) (k : ℕ) (x : Running) (s : SoundUp w) (r : IsRunning w k x) 
       old o d f j l h y i (inl z) = has_from_copy x.destination.snapshots j (y, z, i)
       old o d f j l h y i (inr z) = absurd (not_leg o f j l h ((leg_there leg a).1 j (sym i ∙ ap (λ p. p.ident) z)) (cases_eq x.relation.source q.destination))
 
-      some : (b : Bool) → b ≡ true → cond b (x.destination.snapshots ++ arrived x leg ∷ []) (retained x.policy.rules (needed w x.relation.destination) (x.destination.snapshots ++ arrived x leg ∷ [])) ≢ []
+      some : (b : Bool) → b ≡ true → cond b (x.destination.snapshots ++ arrived x leg ∷ []) (retained x.policy.rules (class_of x.policy) (needed w x.relation.destination) (x.destination.snapshots ++ arrived x leg ∷ [])) ≢ []
       some true e = filled_has _ leg.ident (has_from_copy (x.destination.snapshots ++ arrived x leg ∷ []) leg.ident (arrived x leg, among_right x.destination.snapshots (arrived x leg ∷ []) (arrived x leg) (inl refl), refl))
       some false e = absurd (true≢false (sym e))

@@ -14,7 +14,7 @@ use Rattle.sm_model.specs.declared.event.Event.{Event}
 use Rattle.sm_model.specs.World.{Deed}
 use Rattle.sm_model.specs.LegalRun.{IsDeed, IsStepDeed}
 use Rattle.sm_model.specs.OfTransfers.{with_transfer, without_transfer}
-use Rattle.sm_model.specs.Opened.{opened, reopened, rejoined, restarted}
+use Rattle.sm_model.specs.Opened.{opened, rejoined, restarted}
 use Rattle.sm_model.specs.Running.{Running, IsRunning}
 use Rattle.sm_model.specs.Steps.{Effect, with_destination, interrupted, reverted, published}
 use Rattle.sm_model.specs.Due.{StepKind, IsEffect, IsStep, by_transfer, by_tidy, settled_relation, goes, is_tidied, tidy_due}
@@ -39,6 +39,7 @@ use Rattle.laws_families.proofs.FamilyAnswers.{AllStand, idle_set, idle_had, onl
 use Rattle.laws_families.proofs.FamilyTakes.{lacks_by, prepares, prunes, reverts_mirror}
 use Rattle.laws_families.proofs.FamilyPublish.{reverts_vault, publishes_vault, publishes_mirror}
 use Rattle.laws_cases.proofs.Steps.RunningTransfers.{here, at_x}
+use Rattle.sm_defs.specs.Operations as operations
 
 -- ---- the transfer of a running relationship
 
@@ -124,12 +125,12 @@ deeds_keep_all_families e d s i = record { given = deeds_keep_given e d s i; tra
 -- ---- restarts
 
 abbrev Reopened : Up → Up
-Reopened w = record w { volumes = map reopened w.volumes }
+Reopened w = record w { volumes = map operations.opened w.volumes }
 
 reopened_stands : (w : Up) → SoundUp w → (r : Relationship) (t : Transfer) → Among w.relations r → r.transfer ≡ Some t → FamilyStands (Reopened w) r t
 reopened_stands w s r t m e vault =
     let h = s.families_stand.transfers r t m e vault in (
-      λ n y k f. let (z, l, g) = from_map reopened w.volumes y k in h.0 (λ q. n (ap (λ v. v.family) (at r.destination c.destination) ∙ q)) z l (ap (λ v. v.family) (sym g) ∙ f),
+      λ n y k f. let (z, l, g) = from_map operations.opened w.volumes y k in h.0 (λ q. n (ap (λ v. v.family) (at r.destination c.destination) ∙ q)) z l (ap (λ v. v.family) (sym g) ∙ f),
       λ f. let o = h.1 (ap (λ v. v.family) (sym (at r.destination c.destination)) ∙ f) in record {
         source_elsewhere = λ q. o.source_elsewhere (ap (λ v. v.family) (sym (at r.source c.source)) ∙ q);
         source_has = let (j, b, q) = o.source_has in (j, b, subst (λ y. has y.snapshots j ≡ true) (sym (at r.source c.source)) q);
@@ -143,11 +144,11 @@ reopened_stands w s r t m e vault =
     c : CrossedRelation w r
     c = s.crossed.relations r m
 
-    at : (n : ℕ) → n < length w.volumes → volume_at (Reopened w) n ≡ reopened (volume_at w n)
-    at n l = mapped_at reopened w.volumes no_volume n l
+    at : (n : ℕ) → n < length w.volumes → volume_at (Reopened w) n ≡ operations.opened (volume_at w n)
+    at n l = mapped_at operations.opened w.volumes no_volume n l
 
-    within : (n : ℕ) → n < length (map reopened w.volumes) → n < length w.volumes
-    within n k = rw (sym (mapped_length reopened w.volumes)) k
+    within : (n : ℕ) → n < length (map operations.opened w.volumes) → n < length w.volumes
+    within n k = rw (sym (mapped_length operations.opened w.volumes)) k
 
 restarted_none : (o : Option Transfer) → o ≡ None → restarted o ≡ None
 restarted_none o e = ap restarted e

@@ -8,7 +8,7 @@ use Rattle.sm_defs.specs.Relationship.{Relationship, Transfer, is_mirror}
 use Rattle.sm_defs.specs.World.{Up, volume_at, policy_at, with_volume}
 use Rattle.sm_defs.specs.Operations.{with_snapshot}
 use Rattle.sm_model.specs.Running.{Running, IsRunning}
-use Rattle.sm_model.specs.Steps.{family_of_transfer, with_destination, reverted, prepared_snapshot, snapshot_of}
+use Rattle.sm_model.specs.Steps.{with_destination, reverted, prepared_snapshot, snapshot_of}
 use Rattle.sm_model.specs.Due.{reserved_leg, goes}
 use Rattle.sm_model.specs.FamiliesStand.{IsBaseOrFirst, FamilyStands}
 use Rattle.sm_model.specs.Crossed.{CrossedRelation}
@@ -30,6 +30,7 @@ use Rattle.laws_families.proofs.FamilyAnswers.{AllStand, family_same}
 use Rattle.laws_cases.proofs.Answers.Plainly.{not_both}
 use Rattle.laws_cases.proofs.Steps.LegsThere.{vault_leg}
 use Rattle.laws_cases.proofs.Steps.RunningTransfers.{here, crossed, transfer, at_x, source_x, not_vault, mirrors_none}
+use Rattle.sm_defs.specs.Made.{family_of_transfer}
 
 -- nobody had the family, and the source has the base or the first leg
 pub family_taken : (w : Up) (i : ℕ) (u : Volume) → SoundUp w → (r : Relationship) (t : Transfer) → Among w.relations r → r.transfer ≡ Some t → is_mirror (policy_at w r.policy).kind ≡ false → i ≡ r.destination → u.family ≡ family_of_transfer t.number →

@@ -27,7 +27,7 @@ use Rattle.sm_model.specs.OfRelations.{has_a_half}
 use Rattle.sm_model.specs.OfTransfers as transfers
 use Rattle.sm_model.specs.Formed.{FormedTransfer, Formed, path_of, disk_of, policy_name}
 use Rattle.sm_model.specs.Sound.{SoundUp}
-use Rattle.laws_cases.proofs.Answers.Walk.{OfOk, past, with_found, with_ok, with_held, with_target, whether_so, now}
+use Rattle.laws_cases.proofs.Answers.Walk.{OfOk, past, with_found, with_ok, with_held, with_target, whether_so, now, passing, passed}
 use Rattle.laws_cases.proofs.Lists.Members.{found_among, found_at, among_get_or}
 use Rattle.laws_cases.proofs.Lists.Thinned.{filter_thins}
 use Rattle.laws_cases.proofs.Answers.Changes.{VolumeAt, RelationAt}
@@ -42,6 +42,8 @@ use Rattle.laws_form.proofs.Tests.{no_such_path, no_such_disk, no_such_name, bel
 use Rattle.laws_form.proofs.Shapes.{formed_pointed, formed_thinned, formed_written, formed_writable, formed_taken, formed_counted, formed_new}
 use Rattle.laws_form.proofs.FormedParts.{formed_policy, formed_with_rule, formed_carried, formed_running, formed_stopped, formed_settled, formed_new_transfer}
 use Rattle.laws_form.proofs.FormedWorlds.{FormedProgress, formed_at, formed_push, policy_pushed, policy_at_place, at_later, relation_pushed, relation_set, halves_set, counted_on}
+use Rattle.sm_defs.specs.Rules as rules
+use Rattle.sm_defs.specs.Progress as progress
 
 abbrev IsFormed : Reached → Type 0
 IsFormed r = Formed r.world
@@ -80,7 +82,7 @@ read w path name block s = with_found _ _ _ _ (λ v _. with_ok _ _ _ (λ i _. pa
 
 create_policy : (w : Up) (name : List ℕ) (kind : PolicyKind) → SoundUp w → is_part name ≡ true → OfOk IsFormed (policies.create_policy w name kind)
 create_policy w name kind s g = past _ _ _ _ (λ a. past _ _ _ _ (λ b. now IsFormed _
-    (policy_pushed w (policies.new_policy name kind) (below_bound (length w.policies) MOST_POLICIES s.formed.few_policies b) (no_such_name w.policies name a) s.formed (formed_policy name kind g))))
+    (policy_pushed w (rules.new_policy name kind) (below_bound (length w.policies) MOST_POLICIES s.formed.few_policies b) (no_such_name w.policies name a) s.formed (formed_policy name kind g))))
 
 add_rule : (w : Up) (name label : List ℕ) (keep : ℕ) (preserve : Bool) → SoundUp w → is_label label ≡ true → OfOk IsFormed (policies.add_rule w name label keep preserve)
 add_rule w name label keep preserve s g = with_found _ _ _ _ (λ p is. past _ _ _ _ (λ a. past _ _ _ _ (λ b. past _ _ _ _ (λ c. past _ _ _ _ (λ d.
@@ -112,15 +114,15 @@ set_quiesced w d flag s = with_target _ _ _ _ (λ t _ is. let a = relation_at_pl
     (relation_set w t.relation.at _ (number_at a) s.formed (record { half = f.half; transfer = progress_carried t.relation.item _ refl refl f.transfer })))
 
 break_off : (w : Up) (d : List ℕ) → SoundUp w → OfOk IsFormed (relations.break_off w d)
-break_off w d s = with_target _ _ _ _ (λ t is _. past _ _ _ _ (λ _. past _ _ _ _ (λ _. past _ _ _ _ (λ _. let a = volume_at_place w _ t.destination is in now IsFormed _
+break_off w d s = with_target _ _ _ _ (λ t is _. passing _ _ _ _ _ (λ _. passing _ _ _ _ _ (λ _. passed _ _ _ _ (λ _. let a = volume_at_place w _ t.destination is in now IsFormed _
     (formed_at w t.destination.at _ (ap path_of (sym a.at)) (ap disk_of (sym a.at)) s.formed (formed_writable t.destination.item (s.formed.volumes t.destination.item a.among)))))))
 
 delete : (w : Up) (d : List ℕ) → SoundUp w → OfOk IsFormed (relations.delete w d)
-delete w d s = with_target _ _ _ _ (λ t _ is. past _ _ _ _ (λ _. let a = relation_at_place w _ t.relation is in now IsFormed _
+delete w d s = with_target _ _ _ _ (λ t _ is. passed _ _ _ _ (λ _. let a = relation_at_place w _ t.relation is in now IsFormed _
     (halves_set w t.relation.at _ (number_at a) s.formed (progress_carried t.relation.item _ refl refl (s.formed.relations t.relation.item a.among).transfer))))
 
 release : (w : Up) (s d : List ℕ) → SoundUp w → OfOk IsFormed (relations.release w s d)
-release w s d h = with_found _ _ _ _ (λ s _. with_found _ _ _ _ (λ d _. with_found _ _ _ _ (λ r is. past _ _ _ _ (λ _. past _ _ _ _ (λ _. let a = released_at w _ _ r is in now IsFormed _
+release w s d h = with_found _ _ _ _ (λ s _. with_found _ _ _ _ (λ d _. with_found _ _ _ _ (λ r is. passing _ _ _ _ _ (λ _. passed _ _ _ _ (λ _. let a = released_at w _ _ r is in now IsFormed _
     (halves_set w r.at _ (number_at a) h.formed (progress_carried r.item _ refl refl (h.formed.relations r.item a.among).transfer)))))))
 
 -- ---- transfers
@@ -154,10 +156,10 @@ resume_or_start w r kind (Some t) s a e = let f = s.formed.relations r.item a.am
 resume_or_start w r kind None s a e = start_it w r kind s a
 
 initialize : (w : Up) (d : List ℕ) → SoundUp w → OfOk IsFormed (transfers.initialize w d)
-initialize w d s = with_target _ _ _ _ (λ t _ is. past _ _ _ _ (λ _. past _ _ _ _ (λ _. past _ _ _ _ (λ _. past _ _ _ _ (λ _. resume_or_start w t.relation Initialize _ s (relation_at_place w _ t.relation is) refl)))))
+initialize w d s = with_target _ _ _ _ (λ t _ is. passing _ _ _ _ _ (λ _. passing _ _ _ _ _ (λ _. passing _ _ _ _ _ (λ _. passed _ _ _ _ (λ _. resume_or_start w t.relation Initialize _ s (relation_at_place w _ t.relation is) refl)))))
 
 update : (w : Up) (d : List ℕ) → SoundUp w → OfOk IsFormed (transfers.update w d)
-update w d s = with_target _ _ _ _ (λ t _ is. past _ _ _ _ (λ _. past _ _ _ _ (λ _. past _ _ _ _ (λ _. past _ _ _ _ (λ _. past _ _ _ _ (λ _. resume_or_start w t.relation Update _ s (relation_at_place w _ t.relation is) refl))))))
+update w d s = with_target _ _ _ _ (λ t _ is. passing _ _ _ _ _ (λ _. passing _ _ _ _ _ (λ _. passing _ _ _ _ _ (λ _. passing _ _ _ _ _ (λ _. passed _ _ _ _ (λ _. resume_or_start w t.relation Update _ s (relation_at_place w _ t.relation is) refl))))))
 
 -- a relationship whose published leg was settled
 record Settled (r q : Relationship) (t : Transfer) : Type 0 where
@@ -166,11 +168,11 @@ record Settled (r q : Relationship) (t : Transfer) : Type 0 where
   transfer : t.legs ≢ [] → FormedTransfer q t
 
 settled_formed : (there : List Snapshot) (r : Relationship) (t : Transfer) (is : List Ident) → r.transfer ≡ Some t → t.legs ≡ is → FormedTransfer r t →
-    Settled r (transfers.settled_if_there there r t is) (transfers.transfer_or t (transfers.settled_if_there there r t is).transfer)
+    Settled r (progress.settled_if_there there r t is) (transfers.transfer_or t (progress.settled_if_there there r t is).transfer)
 settled_formed there r t [] e l f = record { number = refl; half = refl; transfer = λ n. subst (λ o. FormedTransfer r (transfers.transfer_or t o)) (sym e) f }
 settled_formed there r t (i ∷ is) e l f = go (has there i)
   where
-    go : (b : Bool) → Settled r (cond b (transfers.settled r t i is) r) (transfers.transfer_or t (cond b (transfers.settled r t i is) r).transfer)
+    go : (b : Bool) → Settled r (cond b (progress.settled r t i is) r) (transfers.transfer_or t (cond b (progress.settled r t i is) r).transfer)
     go true = record { number = refl; half = refl; transfer = λ n. formed_settled r t i is l n f }
     go false = record { number = refl; half = refl; transfer = λ n. subst (λ o. FormedTransfer r (transfers.transfer_or t o)) (sym e) f }
 
@@ -180,14 +182,14 @@ left_legs hard is e = filled is (or_parts hard (is_empty is) e).1
 
 -- what landed without a gap is not past the leg
 halted_near : (w : Up) (r : Relationship) (t : Transfer) (there : List Snapshot) → SoundUp w → Among w.relations r → r.transfer ≡ Some t → (volume_at w r.destination).snapshots ≡ there →
-    (transfers.transfer_or t (transfers.settled_if_there there r t t.legs).transfer).legs ≢ [] → transfers.landed_prefix (transfers.transfer_or t (transfers.settled_if_there there r t t.legs).transfer).landed < 2 ^ 32
+    (transfers.transfer_or t (progress.settled_if_there there r t t.legs).transfer).legs ≢ [] → progress.landed_prefix (transfers.transfer_or t (progress.settled_if_there there r t t.legs).transfer).landed < 2 ^ 32
 halted_near w r t there s m e h = go t.legs refl
   where
-    by : (i : Ident) (is : List Ident) → t.legs ≡ i ∷ is → (b : Bool) → has there i ≡ b → transfers.landed_prefix (transfers.transfer_or t (cond b (transfers.settled r t i is) r).transfer).landed < 2 ^ 32
+    by : (i : Ident) (is : List Ident) → t.legs ≡ i ∷ is → (b : Bool) → has there i ≡ b → progress.landed_prefix (transfers.transfer_or t (cond b (progress.settled r t i is) r).transfer).landed < 2 ^ 32
     by i is l true f = omega arith
-    by i is l false f = rw (ap (λ o. transfers.landed_prefix (transfers.transfer_or t o).landed) e) (prefix_near_leg w r t i is s m e l (rw h f))
+    by i is l false f = rw (ap (λ o. progress.landed_prefix (transfers.transfer_or t o).landed) e) (prefix_near_leg w r t i is s m e l (rw h f))
 
-    go : (is : List Ident) → t.legs ≡ is → (transfers.transfer_or t (transfers.settled_if_there there r t is).transfer).legs ≢ [] → transfers.landed_prefix (transfers.transfer_or t (transfers.settled_if_there there r t is).transfer).landed < 2 ^ 32
+    go : (is : List Ident) → t.legs ≡ is → (transfers.transfer_or t (progress.settled_if_there there r t is).transfer).legs ≢ [] → progress.landed_prefix (transfers.transfer_or t (progress.settled_if_there there r t is).transfer).landed < 2 ^ 32
     go [] l n = absurd (n (ap (λ o. (transfers.transfer_or t o).legs) e ∙ l))
     go (i ∷ is) l n = by i is l (has there i) refl
 
@@ -195,7 +197,7 @@ same_there : (w : Up) (v : Found Volume) (r : Relationship) → VolumeAt w v →
 same_there w v r a to = ap (λ i. (volume_at w i).snapshots) to ∙ ap (λ y. y.snapshots) a.at
 
 abort : (w : Up) (d : List ℕ) (hard : Bool) → SoundUp w → OfOk IsFormed (transfers.abort w d hard)
-abort w d hard s = with_target _ _ _ _ (λ d at is. with_found _ _ _ _ (λ t e. past _ _ _ _ (λ _.
+abort w d hard s = with_target _ _ _ _ (λ d at is. with_found _ _ _ _ (λ t e. passed _ _ _ _ (λ _.
     let a = relation_at_place w _ d.relation is in let f = s.formed.relations d.relation.item a.among in
     let k = settled_formed d.destination.item.snapshots d.relation.item t t.legs e refl (f.transfer t e) in
     whether_so _ _ _ _ (λ _. now IsFormed _ (relation_set w d.relation.at _ (k.number ∙ number_at a) s.formed (record { half = k.half ∙ f.half; transfer = λ u g. absurd (cc) })))
@@ -207,7 +209,7 @@ abort w d hard s = with_target _ _ _ _ (λ d at is. with_found _ _ _ _ (λ t e. 
     }))))))
 
 resync : (w : Up) (d : List ℕ) → SoundUp w → OfOk IsFormed (transfers.resync w d)
-resync w d s = with_target _ _ _ _ (λ t _ is. past _ _ _ _ (λ _. past _ _ _ _ (λ _. past _ _ _ _ (λ _. past _ _ _ _ (λ _. with_found _ _ _ _ (λ c _. with_held _ _ _ (λ _. with_held _ _ _ (λ _. past _ _ _ _ (λ n. now IsFormed _
+resync w d s = with_target _ _ _ _ (λ t _ is. passing _ _ _ _ _ (λ _. passing _ _ _ _ _ (λ _. passing _ _ _ _ _ (λ _. passed _ _ _ _ (λ _. with_found _ _ _ _ (λ c _. with_held _ _ _ (λ _. with_held _ _ _ (λ _. past _ _ _ _ (λ n. now IsFormed _
     (starts_formed w t.relation _ Resync (Some c.ident) _ s (relation_at_place w _ t.relation is) refl refl refl refl n))))))))))
 
 -- ---- all answers

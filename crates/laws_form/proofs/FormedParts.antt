@@ -12,16 +12,18 @@ use Rattle.sm_base.specs.declared.numbers.PolicyKind.{PolicyKind}
 use Rattle.sm_base.specs.declared.numbers.PolicyKind.TheVariants.{AsyncMirror, Vault}
 use Rattle.sm_base.specs.declared.numbers.TransferKind.{TransferKind}
 use Rattle.sm_base.specs.declared.limits.TheConstants.{MOST_RULES, MOST_KEPT, MOST_SNAPSHOTS}
+use Rattle.sm_defs.specs.Classes.{has_class}
 use Rattle.sm_defs.specs.Words.{Among, after}
 use Rattle.sm_defs.specs.Thinned.{Thinned, end, kept, left_out}
 use Rattle.sm_defs.specs.Volume.{Snapshot, numbers, has, idents}
 use Rattle.sm_defs.specs.Relationship.{Rule, Policy, Relationship, Transfer, rule_for, is_mirror, sends_all}
-use Rattle.sm_defs.specs.Legs.{Legs, Source, after_base, candidates, only_newest, made_ident, mirror_legs, vault_legs, has_rule, legs}
+use Rattle.sm_defs.specs.Legs.{Legs, Source, after_base, candidates, only_newest, made_ident, mirror_legs, vault_legs, legs}
 use Rattle.sm_model.specs.Formed.{FormedRule, FormedPolicy, FormedTransfer, AreAdded}
-use Rattle.sm_model.specs.OfPolicies.{first_rules, new_policy, is_wrong_rule, is_bad_keep, with_rule}
-use Rattle.sm_model.specs.OfTransfers.{new_transfer, settled}
+use Rattle.sm_model.specs.OfTransfers.{new_transfer}
 use Rattle.laws_cases.proofs.Lists.Frames.{each_push}
 use Rattle.laws_cases.proofs.Lists.Thinned.{filter_thins, thinned_shorter}
+use Rattle.sm_defs.specs.Rules.{first_rules, new_policy, is_wrong_rule, is_bad_keep, with_rule}
+use Rattle.sm_defs.specs.Progress.{settled}
 
 -- ---- policies
 
@@ -133,8 +135,8 @@ few_mirror false Rw made sent h = omega arith
 few_mirror true Dp made sent h = let a = length_mapped_to sent in omega arith
 few_mirror false Dp made sent h = let a = length_mapped_to (only_newest sent) in let b = few_newest sent in omega arith
 
-few_vault : (rules : List Rule) (sent : List Snapshot) → length sent ≤ MOST_SNAPSHOTS → length (vault_legs rules sent).idents ≤ suc MOST_SNAPSHOTS
-few_vault rules sent h = let a = thinned_shorter (filter_thins (has_rule rules) sent) in let b = length_mapped_to (filter (has_rule rules) sent) in omega arith
+few_vault : (p : Policy) (sent : List Snapshot) → length sent ≤ MOST_SNAPSHOTS → length (vault_legs p sent).idents ≤ suc MOST_SNAPSHOTS
+few_vault p sent h = let a = thinned_shorter (filter_thins (has_class p) sent) in let b = length_mapped_to (filter (has_class p) sent) in omega arith
 
 pub few_legs : (n : ℕ) (p : Policy) (base : Option Ident) (s : Source) (there : List Snapshot) → length s.snapshots ≤ MOST_SNAPSHOTS → length (legs n p base s there).idents ≤ suc MOST_SNAPSHOTS
 few_legs n p base s there h = go (is_mirror p.kind)
@@ -142,9 +144,9 @@ few_legs n p base s there h = go (is_mirror p.kind)
     sent : length (candidates base s.snapshots there) ≤ MOST_SNAPSHOTS
     sent = let a = few_candidates base s.snapshots there in omega arith
 
-    go : (m : Bool) → length (cond m (mirror_legs (sends_all p) s.kind (made_ident s.number n) (candidates base s.snapshots there)) (vault_legs p.rules (candidates base s.snapshots there))).idents ≤ suc MOST_SNAPSHOTS
+    go : (m : Bool) → length (cond m (mirror_legs (sends_all p) s.kind (made_ident s.number n) (candidates base s.snapshots there)) (vault_legs p (candidates base s.snapshots there))).idents ≤ suc MOST_SNAPSHOTS
     go true = few_mirror (sends_all p) s.kind (made_ident s.number n) (candidates base s.snapshots there) sent
-    go false = few_vault p.rules (candidates base s.snapshots there) sent
+    go false = few_vault p (candidates base s.snapshots there) sent
 
 last_of_mirror : (all : Bool) (kind : Kind) (made : Ident) (sent : List Snapshot) → (mirror_legs all kind made sent).reserved ≡ true → (earlier : List Ident) × ((mirror_legs all kind made sent).idents ≡ earlier ++ made ∷ [])
 last_of_mirror true Rw made sent e = (idents sent, refl)
@@ -158,7 +160,7 @@ last_of_legs n p base s there = go (is_mirror p.kind)
     Ends : Legs → Type 0
     Ends ls = ls.reserved ≡ true → (earlier : List Ident) × (ls.idents ≡ earlier ++ made_ident s.number n ∷ [])
 
-    go : (m : Bool) → Ends (cond m (mirror_legs (sends_all p) s.kind (made_ident s.number n) (candidates base s.snapshots there)) (vault_legs p.rules (candidates base s.snapshots there)))
+    go : (m : Bool) → Ends (cond m (mirror_legs (sends_all p) s.kind (made_ident s.number n) (candidates base s.snapshots there)) (vault_legs p (candidates base s.snapshots there)))
     go true = last_of_mirror (sends_all p) s.kind (made_ident s.number n) (candidates base s.snapshots there)
     go false = λ e. absurd (cc)
 

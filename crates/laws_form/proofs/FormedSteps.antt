@@ -18,13 +18,13 @@ use Rattle.sm_model.specs.World.{Deed}
 use Rattle.sm_model.specs.declared.event.Event.{Event}
 use Rattle.sm_model.specs.declared.event.Event.TheVariants as events
 use Rattle.sm_model.specs.InRange.{IsGiven}
-use Rattle.sm_model.specs.OfTransfers.{landed_prefix, with_transfer, without_transfer}
+use Rattle.sm_model.specs.OfTransfers.{with_transfer, without_transfer}
 use Rattle.sm_defs.specs.Operations.{with_snapshot}
 use Rattle.sm_model.specs.Running.{Running, IsRunning}
 use Rattle.sm_model.specs.Steps.{Effect, at_checkpoint, with_destination, interrupted, reverted, prepared_snapshot, snapshot_of, bases, image_or_none, cost, landing, arrived, list_published, published, all_landed}
 use Rattle.sm_model.specs.Due.{StepKind, IsEffect, IsStep, by_transfer, by_tidy, reserved_leg, settled_relation, goes}
 use Rattle.sm_model.specs.LegalRun.{IsDeed}
-use Rattle.sm_model.specs.Opened.{opened, reopened, rejoined, restarted}
+use Rattle.sm_model.specs.Opened.{opened, rejoined, restarted}
 use Rattle.sm_model.specs.Answer.{answer}
 use Rattle.sm_model.specs.Standing.{Stored}
 use Rattle.sm_model.specs.Formed.{FormedSnapshot, FormedVolume, FormedTransfer, FormedRelation, Formed}
@@ -49,6 +49,8 @@ use Rattle.laws_form.proofs.FormedWorlds.{formed_at, relation_set, volumes_mappe
 use Rattle.laws_form.proofs.FormedEvents as events_formed
 use Rattle.laws_form.proofs.FormedEvents.{only_transfer}
 use Rattle.laws_cases.proofs.Answers.Deeds.{done_gives}
+use Rattle.sm_defs.specs.Progress.{landed_prefix}
+use Rattle.sm_defs.specs.Operations as operations
 
 abbrev By : Effect → Type 0
 By e = Formed e.world
@@ -287,4 +289,4 @@ rejoined_formed q f = record { half = f.half; transfer = go q.transfer refl }
         (formed_stopped q (rejoined q) u _ (record { source = refl; number = refl; reserved = refl; legs = refl }) refl refl (f.transfer u m).checkpoint (f.transfer u m))
 
 pub restarts_keep_form : (w : Up) → Formed w → Formed (opened w)
-restarts_keep_form w h = relations_mapped (record w { volumes = map reopened w.volumes }) rejoined (λ r. refl) rejoined_formed (volumes_mapped w reopened (λ v. refl) (λ v. refl) formed_reopened h)
+restarts_keep_form w h = relations_mapped (record w { volumes = map operations.opened w.volumes }) rejoined (λ r. refl) rejoined_formed (volumes_mapped w operations.opened (λ v. refl) (λ v. refl) formed_reopened h)

@@ -9,7 +9,7 @@ use Rattle.std.proofs.lemmas.List.Folds.{list_all-append}
 use Rattle.std.proofs.lemmas.Fmt.{decimal_by_steps, length-decimal-le}
 use Rattle.sm_base.specs.Name.{word_byte, is_snapshot_name}
 use Rattle.sm_base.specs.declared.limits.TheConstants.{LAST_NUMBER, LAST_RELATION}
-use Rattle.sm_model.specs.Steps.{made_name}
+use Rattle.sm_defs.specs.Made.{made_name}
 
 digit_byte : (n : ℕ) → n < 10 → word_byte (48 + n) ≡ true
 digit_byte n h = grind (arith, nat_tests)

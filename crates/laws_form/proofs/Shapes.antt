@@ -11,15 +11,14 @@ use Rattle.sm_defs.specs.Volume.{Volume, Snapshot, images_of, free_tags, new_vol
 use Rattle.sm_model.specs.InRange.{IsCreation}
 use Rattle.sm_model.specs.Standing.{Stored}
 use Rattle.sm_model.specs.Formed.{FormedSnapshot, FormedVolume}
-use Rattle.sm_defs.specs.Operations.{first_of, with_snapshot, counted}
-use Rattle.sm_model.specs.OfVolumes.{written, at_point}
-use Rattle.sm_model.specs.OfRelations.{writable}
-use Rattle.sm_model.specs.Opened.{reopened}
+use Rattle.sm_defs.specs.Operations.{first_of, with_snapshot, counted, writable}
+use Rattle.sm_model.specs.OfVolumes.{written}
 use Rattle.laws_cases.proofs.Lists.Thinned.{thinned_among, thinned_shorter}
 use Rattle.laws_cases.proofs.Lists.Frames.{each_push}
 use Rattle.laws_cases.proofs.Steps.Costs.{among_same}
 use Rattle.laws_copies.proofs.Tags.{ImagesFrom, stored_from, pointed_from, reopened_from, thinned_from, snapped_from, written_stored, tag_of_full}
 use Rattle.laws_copies.proofs.TagsStay.{new_stored}
+use Rattle.sm_defs.specs.Operations as operations
 
 -- ---- images of a volume that was formed
 
@@ -41,11 +40,11 @@ formed_fewer v u h path disk logical physical next few each f = record {
   snapshots = each;
 }
 
-pub formed_pointed : (v : Volume) → FormedVolume v → FormedVolume (at_point v)
-formed_pointed v f = formed_fewer v (at_point v) (pointed_from v) refl refl refl refl refl f.few f.snapshots f
+pub formed_pointed : (v : Volume) → FormedVolume v → FormedVolume (operations.settled v)
+formed_pointed v f = formed_fewer v (operations.settled v) (pointed_from v) refl refl refl refl refl f.few f.snapshots f
 
-pub formed_reopened : (v : Volume) → FormedVolume v → FormedVolume (reopened v)
-formed_reopened v f = formed_fewer v (reopened v) (reopened_from v) refl refl refl refl refl f.few f.snapshots f
+pub formed_reopened : (v : Volume) → FormedVolume v → FormedVolume (operations.opened v)
+formed_reopened v f = formed_fewer v (operations.opened v) (reopened_from v) refl refl refl refl refl f.few f.snapshots f
 
 pub formed_writable : (v : Volume) → FormedVolume v → FormedVolume (writable v)
 formed_writable v f = formed_fewer v (writable v) (λ image m. m) refl refl refl refl refl f.few f.snapshots f

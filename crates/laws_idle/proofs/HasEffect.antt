@@ -2,7 +2,6 @@
 use Rattle.std.proofs.Common.{◌≡◌, ℕ, Some, refl}
 use Rattle.sm_defs.specs.World.{Up}
 use Rattle.sm_model.specs.Sound.{SoundUp}
-use Rattle.sm_model.specs.OfTransfers.{landed_prefix}
 use Rattle.sm_model.specs.Running.{Running, IsRunning}
 use Rattle.sm_model.specs.Steps.{Effect, cost}
 use Rattle.sm_model.specs.Due.{StepKind, revert, finish, settle, prepare, prune, publish, checkpoint, ship, kind_due, IsEffect, revert_effect, finish_effect, settle_effect, prepare_effect, prune_effect, publish_effect, checkpoint_effect, ship_effect}
@@ -10,6 +9,7 @@ use Rattle.laws_cases.proofs.Steps.DueCases.{IsDue, due_ship, kind_is_due}
 use Rattle.laws_idle.proofs.HasStep.{has_step}
 use Rattle.laws_cases.proofs.Steps.Shipping.{may_ship_first}
 use Rattle.laws_idle.proofs.Idling.{in_window}
+use Rattle.sm_defs.specs.Progress.{landed_prefix}
 
 has_effect : (w : Up) (k : ℕ) (x : Running) (kind : StepKind) → SoundUp w → IsRunning w k x → IsDue x kind → (e : Effect) × IsEffect w k x kind e
 has_effect w k x (revert base) s r d = (revert_effect w k x base, refl)

@@ -8,8 +8,8 @@ use Rattle.sm_defs.specs.Words.{Among}
 use Rattle.sm_defs.specs.Volume.{Volume, Snapshot, ident_of, has, numbers, no_volume}
 use Rattle.sm_defs.specs.Relationship.{Relationship, Transfer}
 use Rattle.sm_defs.specs.World.{Up, volume_at, policy_at, with_volume}
-use Rattle.sm_model.specs.OfRelations.{writable, without_destination, without_source, new_relation, quiesced_as}
-use Rattle.sm_model.specs.OfTransfers.{with_transfer, without_transfer, settled, halted, resumed, landed_prefix}
+use Rattle.sm_model.specs.OfRelations.{without_destination, without_source, new_relation, quiesced_as}
+use Rattle.sm_model.specs.OfTransfers.{with_transfer, without_transfer, halted, resumed}
 use Rattle.sm_model.specs.Running.{running_in}
 use Rattle.sm_model.specs.Steps.{snapshot_of}
 use Rattle.sm_model.specs.LegsFit.{LegsFitFor, LegsFit}
@@ -31,6 +31,8 @@ use Rattle.laws_legs.proofs.FitParts.{Alike, Rests, fits_rested, fits_alike, fit
 use Rattle.laws_cases.proofs.Answers.OfRelationEvents.{goes_there, goes_half}
 use Rattle.laws_cases.proofs.Moves.PoliciesStay.{PoliciesStay, aside_policies}
 use Rattle.laws_cases.proofs.Steps.RunningTransfers.{one_destination}
+use Rattle.sm_defs.specs.Operations.{writable}
+use Rattle.sm_defs.specs.Progress.{settled, landed_prefix}
 
 abbrev pub FitsIn : Up → Relationship → Transfer → Type 0
 FitsIn w r t = LegsFitFor (running_in w r t)

@@ -2,12 +2,12 @@
 use Rattle.std.proofs.Common.{◌≡◌, ◌≢◌, ◌≤◌, ◌<◌, ℕ, zero, suc, Bool, true, false, cond, List, [], ◌∷◌, Option, Some, refl, sym, ◌∙◌, ap, ap₂, subst, inl, inr, arith, true≢false}
 use Rattle.std.specs.List.{AllByRecursion}
 use Rattle.sm_base.specs.declared.numbers.Ident.{Ident}
-use Rattle.sm_defs.specs.Words.{Among}
+use Rattle.sm_defs.specs.Words.{Among, Ascends}
 use Rattle.sm_defs.specs.Missing.{mirror_cost, vault_cost}
 use Rattle.sm_defs.specs.Image.{Image}
 use Rattle.sm_defs.specs.Volume.{Volume, Snapshot, has, numbers, free}
 use Rattle.sm_defs.specs.Relationship.{Transfer, is_mirror}
-use Rattle.sm_model.specs.LegsFit.{IsUnderWay, IsChecked, FitsSource, FirstFits, Ascends, InWindow, LegsFitFor}
+use Rattle.sm_model.specs.LegsFit.{IsUnderWay, IsChecked, FitsSource, FirstFits, InWindow, LegsFitFor}
 use Rattle.sm_model.specs.Running.{Running}
 use Rattle.sm_model.specs.Steps.{snapshot_of, image_or_none, bases, cost}
 use Rattle.laws_cases.proofs.Steps.Shipping.{to_numbers, below_numbers}

@@ -4,12 +4,11 @@ use Rattle.std.specs.List.{AllByRecursion}
 use Rattle.std.proofs.lemmas.Bool.{ltb-true, ltb-false, both_ways, cases_order}
 use Rattle.std.proofs.lemmas.Option.{same_Some}
 use Rattle.sm_base.specs.declared.limits.TheConstants.{WINDOW}
-use Rattle.sm_defs.specs.Words.{Among}
+use Rattle.sm_defs.specs.Words.{Among, Ascends}
 use Rattle.sm_defs.specs.Image.{stands}
 use Rattle.sm_defs.specs.Volume.{Snapshot, has, free}
 use Rattle.sm_defs.specs.Relationship.{Transfer, is_mirror}
-use Rattle.sm_model.specs.OfTransfers.{landed_prefix}
-use Rattle.sm_model.specs.LegsFit.{IsChecked, FirstFits, Ascends, InWindow, LegsFitFor}
+use Rattle.sm_model.specs.LegsFit.{IsChecked, FirstFits, InWindow, LegsFitFor}
 use Rattle.sm_model.specs.Running.{Running}
 use Rattle.sm_model.specs.Steps.{snapshot_of, cost}
 use Rattle.sm_model.specs.Due.{insert_landed}
@@ -19,6 +18,7 @@ use Rattle.laws_cases.proofs.Steps.DueCases.{Ahead}
 use Rattle.laws_cases.proofs.Steps.Parties.{snapshot_is}
 use Rattle.laws_cases.proofs.Steps.Shipping.{prefix_is}
 use Rattle.laws_legs.proofs.FitParts.{Alike, source_alike, reads_same}
+use Rattle.sm_defs.specs.Progress.{landed_prefix}
 
 -- the transfer goes on with the same legs, of which the first is ahead
 pub fits_going : (x y : Running) (leg : Snapshot) → Alike x y → Ahead x leg → y.transfer.legs ≡ x.transfer.legs → (is_mirror x.policy.kind ≡ true → IsChecked y.transfer → IsChecked x.transfer) →

@@ -12,7 +12,7 @@ use Rattle.sm_defs.specs.World.{Up, volume_at}
 use Rattle.sm_model.specs.declared.event.Event.{Event}
 use Rattle.sm_model.specs.Answers.{Reached}
 use Rattle.sm_model.specs.Answer.{answer}
-use Rattle.sm_model.specs.Opened.{opened, reopened, rejoined, restarted}
+use Rattle.sm_model.specs.Opened.{opened, rejoined, restarted}
 use Rattle.sm_model.specs.Running.{running_in}
 use Rattle.sm_model.specs.Steps.{snapshot_of}
 use Rattle.sm_model.specs.Crossed.{CrossedRelation}
@@ -26,6 +26,7 @@ use Rattle.laws_cases.proofs.Needed.NeedsStay.{answers_keep}
 use Rattle.laws_cases.proofs.Moves.OfMoves.{answer_moves}
 use Rattle.laws_legs.proofs.FitParts.{Alike, fits_rested, fits_unbegun}
 use Rattle.laws_legs.proofs.FitAnswers.{FitsIn, resumed_rests, of_move}
+use Rattle.sm_defs.specs.Operations as operations
 
 pub answers_keep_fit : (w : Up) (e : Event) (reached : Reached) → SoundUp w → answer w e ≡ Some (Ok reached) → LegsFit reached.world
 answers_keep_fit w e reached s i = of_move w reached.world s (answer_moves w e reached i) (answers_keep w e reached i)
@@ -50,13 +51,13 @@ still w v s m d = go v.snapshots refl
         (λ p b f. stands.blank e p b (v.stable, inr (inl refl), f)) (λ p b f. stands.blank e p b (v.active, inl refl, f))
     go (t ∷ ts) e = stands.still (λ z. let f : t ∷ ts ≡ [] = sym e ∙ z in cc)
 
-reopened_still : (v : Volume) → v.stable ≡ v.active → reopened v ≡ v
+reopened_still : (v : Volume) → v.stable ≡ v.active → operations.opened v ≡ v
 reopened_still v e = ap (λ image. record v { active = image }) e
 
 -- ---- restarts
 
-reopened_at : (w : Up) (i : ℕ) → i < length w.volumes → volume_at (opened w) i ≡ reopened (volume_at w i)
-reopened_at w i l = mapped_at reopened w.volumes no_volume i l
+reopened_at : (w : Up) (i : ℕ) → i < length w.volumes → volume_at (opened w) i ≡ operations.opened (volume_at w i)
+reopened_at w i l = mapped_at operations.opened w.volumes no_volume i l
 
 rejoined_fits : (w : Up) (q : Relationship) (u t : Transfer) → SoundUp w → Among w.relations q → q.transfer ≡ Some u → restarted (Some u) ≡ Some t → (k : Kind) → (volume_at w q.destination).kind ≡ k → FitsIn (opened w) (rejoined q) t
 rejoined_fits w q u t s m e f Rw g = let b = s.transfers_stand q u m e in let (x, c, l, y) = b.writable g in

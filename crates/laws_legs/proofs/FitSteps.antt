@@ -7,6 +7,7 @@ use Rattle.sm_base.specs.declared.numbers.Ident.{Ident}
 use Rattle.sm_base.specs.declared.numbers.Kind.TheVariants.{Rw}
 use Rattle.sm_base.specs.declared.refusal.Reason.{Reason}
 use Rattle.sm_base.specs.declared.refusal.Reason.TheVariants.{NoSpace}
+use Rattle.sm_defs.specs.Classes.{class_of}
 use Rattle.sm_defs.specs.Edges.{is_empty}
 use Rattle.sm_base.specs.declared.limits.TheConstants.{WINDOW}
 use Rattle.sm_defs.specs.Missing.{vault_landing}
@@ -17,7 +18,7 @@ use Rattle.sm_defs.specs.Image.{Block, Image, tags, SameContents, stands}
 use Rattle.sm_defs.specs.Volume.{Volume, Snapshot, has, free, free_tags, no_volume, is_rw, without}
 use Rattle.sm_defs.specs.Relationship.{Policy, Relationship, Transfer, is_mirror, is_resync}
 use Rattle.sm_defs.specs.World.{Up, volume_at, policy_at, with_volume, with_relation}
-use Rattle.sm_model.specs.OfTransfers.{Holding, first_held, with_transfer, without_transfer, landed_prefix}
+use Rattle.sm_model.specs.OfTransfers.{Holding, first_held, with_transfer, without_transfer}
 use Rattle.sm_model.specs.LegsFit.{IsUnderWay, IsChecked, Agree, FitsSource, FirstLegFits, FirstFits, LegsFitFor, LegsFit}
 use Rattle.sm_model.specs.Running.{Running, IsRunning, running_in}
 use Rattle.sm_model.specs.Steps.{Effect, with_destination, interrupted, reverted, snapshot_of, bases, landing, cost, arrived, published, list_published, may_ship, at_checkpoint}
@@ -50,6 +51,7 @@ use Rattle.laws_cases.proofs.Moves.PoliciesStay.{same_policies}
 use Rattle.laws_cases.proofs.Steps.LegsThere.{leg_there}
 use Rattle.laws_copies.proofs.RulesKeep.{vault_keeps_leg}
 use Rattle.laws_cases.proofs.Steps.RunningTransfers.{here, crossed, at_x, source_x, own_here, same_family}
+use Rattle.sm_defs.specs.Progress.{landed_prefix}
 
 -- images with the same numbers and the same bytes are the same
 same_image : (xs ys : Image) → tags xs ≡ tags ys → SameContents xs ys → xs ≡ ys
@@ -196,7 +198,7 @@ module _ (w : Up) (k : ℕ) (x : Running) (s : SoundUp w) (r : IsRunning w k x) 
   published_there : (leg : Snapshot) → Ahead x leg → has (list_published w x (arrived x leg)) leg.ident ≡ true
   published_there leg a = go (is_mirror x.policy.kind) refl
     where
-      go : (b : Bool) → is_mirror x.policy.kind ≡ b → has (cond b (x.destination.snapshots ++ arrived x leg ∷ []) (retained x.policy.rules (needed w x.relation.destination) (x.destination.snapshots ++ arrived x leg ∷ []))) leg.ident ≡ true
+      go : (b : Bool) → is_mirror x.policy.kind ≡ b → has (cond b (x.destination.snapshots ++ arrived x leg ∷ []) (retained x.policy.rules (class_of x.policy) (needed w x.relation.destination) (x.destination.snapshots ++ arrived x leg ∷ []))) leg.ident ≡ true
       go true m = has_from_copy (x.destination.snapshots ++ arrived x leg ∷ []) leg.ident (arrived x leg, among_right x.destination.snapshots (arrived x leg ∷ []) (arrived x leg) (inl refl), refl)
       go false m = vault_keeps_leg w k x leg false s r a m refl
 

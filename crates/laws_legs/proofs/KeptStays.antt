@@ -2,17 +2,17 @@
 use Rattle.std.proofs.Common.{◌≡◌, ◌⊎◌, ℕ, true, false, List, [], ◌∷◌, Option, Some, None, refl, sym, ap, subst, ◌∙◌, inl, inr}
 use Rattle.std.proofs.lemmas.Option.{same_Some}
 use Rattle.sm_base.specs.declared.numbers.Ident.{Ident}
+use Rattle.sm_defs.specs.Classes.{has_class}
 use Rattle.sm_defs.specs.Words.{Among}
 use Rattle.sm_defs.specs.Volume.{Snapshot, no_volume, without}
 use Rattle.sm_defs.specs.Relationship.{Relationship, Transfer, is_mirror}
-use Rattle.sm_defs.specs.Legs.{has_rule}
 use Rattle.sm_defs.specs.World.{Up, volume_at, policy_at, with_relation}
 use Rattle.sm_model.specs.declared.event.Event.{Event}
 use Rattle.sm_model.specs.World.{Deed}
 use Rattle.sm_model.specs.LegalRun.{IsDeed, IsStepDeed}
 use Rattle.sm_model.specs.OfRelations.{without_destination, without_source, new_relation}
-use Rattle.sm_model.specs.OfTransfers.{with_transfer, without_transfer, settled}
-use Rattle.sm_model.specs.Opened.{opened, reopened, rejoined, restarted}
+use Rattle.sm_model.specs.OfTransfers.{with_transfer, without_transfer}
+use Rattle.sm_model.specs.Opened.{opened, rejoined, restarted}
 use Rattle.sm_model.specs.Running.{Running, IsRunning}
 use Rattle.sm_model.specs.Steps.{Effect, with_destination, interrupted}
 use Rattle.sm_model.specs.Due.{StepKind, IsEffect, IsStep, by_transfer, by_tidy, settled_relation, goes}
@@ -31,6 +31,8 @@ use Rattle.laws_copies.proofs.Arriving as arriving
 use Rattle.laws_copies.proofs.Arriving.{Arrives, fewer_at, at_x}
 use Rattle.laws_legs.proofs.KeptParts.{VaultKeeps, kept_aside, kept_on, kept_new, kept_list}
 use Rattle.laws_cases.proofs.Moves.PoliciesStay.{same_policies, aside_policies}
+use Rattle.sm_defs.specs.Progress.{settled}
+use Rattle.sm_defs.specs.Operations as operations
 
 -- ---- events
 
@@ -130,12 +132,12 @@ restarts_keep_legs w s r t m e mirror =
     let (q, n, f) = from_map rejoined w.relations r m in
     let k = at_old q n q.transfer refl (ap (λ y. y.transfer) (sym f) ∙ e) (ap (λ y. is_mirror (policy_at w y.policy).kind) (sym f) ∙ mirror) in record {
       unreserved = k.0;
-      rules = λ x l o. subst (λ y. has_rule (policy_at w y.policy).rules x ≡ true) (sym f) (k.1 x l
-          (subst (λ v. Among v.snapshots x) (mapped_at reopened w.volumes no_volume q.source (s.crossed.relations q n).source) (subst (λ y. Among (volume_at (opened w) y.source).snapshots x) f o)));
+      classes = λ x l o. subst (λ y. has_class (policy_at w y.policy) x ≡ true) (sym f) (k.1 x l
+          (subst (λ v. Among v.snapshots x) (mapped_at operations.opened w.volumes no_volume q.source (s.crossed.relations q n).source) (subst (λ y. Among (volume_at (opened w) y.source).snapshots x) f o)));
     }
   where
     at_old : (q : Relationship) → Among w.relations q → (o : Option Transfer) → q.transfer ≡ o → restarted o ≡ Some t → is_mirror (policy_at w q.policy).kind ≡ false →
-        (t.reserved ≡ false) × ((x : Snapshot) → Among t.legs x.ident → Among (volume_at w q.source).snapshots x → has_rule (policy_at w q.policy).rules x ≡ true)
+        (t.reserved ≡ false) × ((x : Snapshot) → Among t.legs x.ident → Among (volume_at w q.source).snapshots x → has_class (policy_at w q.policy) x ≡ true)
     at_old q n None f g h = absurd (cc)
     at_old q n (Some u) f g h = let k = s.legs_kept q u n f h in
-        subst (λ y. (y.reserved ≡ false) × ((x : Snapshot) → Among y.legs x.ident → Among (volume_at w q.source).snapshots x → has_rule (policy_at w q.policy).rules x ≡ true)) (same_Some _ t g) (k.unreserved, k.rules)
+        subst (λ y. (y.reserved ≡ false) × ((x : Snapshot) → Among y.legs x.ident → Among (volume_at w q.source).snapshots x → has_class (policy_at w q.policy) x ≡ true)) (same_Some _ t g) (k.unreserved, k.classes)

@@ -17,7 +17,8 @@ use Rattle.sm_model.specs.Answers as answers
 use Rattle.sm_model.specs.Due as due
 use Rattle.sm_model.specs.OfRelations as related
 use Rattle.sm_model.specs.OfTransfers as transfers
-use Rattle.sm_model.specs.Answers.{and_then, refused_if, some_or}
+use Rattle.sm_defs.specs.May.{refused}
+use Rattle.sm_model.specs.Answers.{and_then, refused_if, allowed, some_or}
 use Rattle.sm_model.specs.Answer.{answer}
 use Rattle.sm_model.specs.OfTransfers.{resume_or_start}
 use Rattle.sm_model.specs.Running.{Running, running_in, IsRunning}
@@ -76,51 +77,51 @@ first_policy w [] = AsyncMirror
 first_policy w (r ∷ rs) = (policy_at w r.policy).kind
 
 initializes : first_kind (course (empty_world disks) to_initialize).relations ≡ Some Initialize
-unfolding first_kind kind_of kind_if first_policy disks work to_initialize answer and_then refused_if some_or resume_or_start answers.target_named related.already transfers.refused_rule answers.whether◌then◌otherwise◌ due.unless images.hole transfers.held_downstream
+unfolding first_kind kind_of kind_if first_policy disks work to_initialize answer and_then refused_if allowed refused some_or resume_or_start answers.target_named related.already transfers.refused_rule answers.whether◌then◌otherwise◌ due.unless images.hole transfers.held_downstream
 initializes = refl
 
 initializes_by : first_policy (course (empty_world disks) to_initialize) (course (empty_world disks) to_initialize).relations ≡ AsyncMirror
-unfolding first_kind kind_of kind_if first_policy disks work to_initialize answer and_then refused_if some_or resume_or_start answers.target_named related.already transfers.refused_rule answers.whether◌then◌otherwise◌ due.unless images.hole transfers.held_downstream
+unfolding first_kind kind_of kind_if first_policy disks work to_initialize answer and_then refused_if allowed refused some_or resume_or_start answers.target_named related.already transfers.refused_rule answers.whether◌then◌otherwise◌ due.unless images.hole transfers.held_downstream
 initializes_by = refl
 
 updates : first_kind (course (empty_world disks) to_update).relations ≡ Some Update
-unfolding first_kind kind_of kind_if first_policy disks work to_initialize to_update answer and_then refused_if some_or resume_or_start answers.target_named related.already transfers.refused_rule answers.whether◌then◌otherwise◌ due.unless images.hole transfers.held_downstream
+unfolding first_kind kind_of kind_if first_policy disks work to_initialize to_update answer and_then refused_if allowed refused some_or resume_or_start answers.target_named related.already transfers.refused_rule answers.whether◌then◌otherwise◌ due.unless images.hole transfers.held_downstream
 updates = refl
 
 updates_by : first_policy (course (empty_world disks) to_update) (course (empty_world disks) to_update).relations ≡ AsyncMirror
-unfolding first_kind kind_of kind_if first_policy disks work to_initialize to_update answer and_then refused_if some_or resume_or_start answers.target_named related.already transfers.refused_rule answers.whether◌then◌otherwise◌ due.unless images.hole transfers.held_downstream
+unfolding first_kind kind_of kind_if first_policy disks work to_initialize to_update answer and_then refused_if allowed refused some_or resume_or_start answers.target_named related.already transfers.refused_rule answers.whether◌then◌otherwise◌ due.unless images.hole transfers.held_downstream
 updates_by = refl
 
 resyncs : first_kind (course (empty_world disks) to_resync).relations ≡ Some Resync
-unfolding first_kind kind_of kind_if first_policy disks work to_initialize to_resync answer and_then refused_if some_or resume_or_start answers.target_named related.already transfers.refused_rule answers.whether◌then◌otherwise◌ due.unless images.hole transfers.held_downstream
+unfolding first_kind kind_of kind_if first_policy disks work to_initialize to_resync answer and_then refused_if allowed refused some_or resume_or_start answers.target_named related.already transfers.refused_rule answers.whether◌then◌otherwise◌ due.unless images.hole transfers.held_downstream
 resyncs = refl
 
 resyncs_by : first_policy (course (empty_world disks) to_resync) (course (empty_world disks) to_resync).relations ≡ AsyncMirror
-unfolding first_kind kind_of kind_if first_policy disks work to_initialize to_resync answer and_then refused_if some_or resume_or_start answers.target_named related.already transfers.refused_rule answers.whether◌then◌otherwise◌ due.unless images.hole transfers.held_downstream
+unfolding first_kind kind_of kind_if first_policy disks work to_initialize to_resync answer and_then refused_if allowed refused some_or resume_or_start answers.target_named related.already transfers.refused_rule answers.whether◌then◌otherwise◌ due.unless images.hole transfers.held_downstream
 resyncs_by = refl
 
 vault_initializes : first_kind (course (empty_world disks) to_vault).relations ≡ Some Initialize
-unfolding first_kind kind_of kind_if first_policy disks work to_vault answer and_then refused_if some_or resume_or_start answers.target_named related.already transfers.refused_rule answers.whether◌then◌otherwise◌ due.unless images.hole transfers.held_downstream
+unfolding first_kind kind_of kind_if first_policy disks work to_vault answer and_then refused_if allowed refused some_or resume_or_start answers.target_named related.already transfers.refused_rule answers.whether◌then◌otherwise◌ due.unless images.hole transfers.held_downstream
 vault_initializes = refl
 
 vault_initializes_by : first_policy (course (empty_world disks) to_vault) (course (empty_world disks) to_vault).relations ≡ Vault
-unfolding first_kind kind_of kind_if first_policy disks work to_vault answer and_then refused_if some_or resume_or_start answers.target_named related.already transfers.refused_rule answers.whether◌then◌otherwise◌ due.unless images.hole transfers.held_downstream
+unfolding first_kind kind_of kind_if first_policy disks work to_vault answer and_then refused_if allowed refused some_or resume_or_start answers.target_named related.already transfers.refused_rule answers.whether◌then◌otherwise◌ due.unless images.hole transfers.held_downstream
 vault_initializes_by = refl
 
 vault_updates : first_kind (course (empty_world disks) to_vault_update).relations ≡ Some Update
-unfolding first_kind kind_of kind_if first_policy disks work to_vault to_vault_update answer and_then refused_if some_or resume_or_start answers.target_named related.already transfers.refused_rule answers.whether◌then◌otherwise◌ due.unless images.hole transfers.held_downstream
+unfolding first_kind kind_of kind_if first_policy disks work to_vault to_vault_update answer and_then refused_if allowed refused some_or resume_or_start answers.target_named related.already transfers.refused_rule answers.whether◌then◌otherwise◌ due.unless images.hole transfers.held_downstream
 vault_updates = refl
 
 vault_updates_by : first_policy (course (empty_world disks) to_vault_update) (course (empty_world disks) to_vault_update).relations ≡ Vault
-unfolding first_kind kind_of kind_if first_policy disks work to_vault to_vault_update answer and_then refused_if some_or resume_or_start answers.target_named related.already transfers.refused_rule answers.whether◌then◌otherwise◌ due.unless images.hole transfers.held_downstream
+unfolding first_kind kind_of kind_if first_policy disks work to_vault to_vault_update answer and_then refused_if allowed refused some_or resume_or_start answers.target_named related.already transfers.refused_rule answers.whether◌then◌otherwise◌ due.unless images.hole transfers.held_downstream
 vault_updates_by = refl
 
 vault_resyncs : first_kind (course (empty_world disks) to_vault_resync).relations ≡ Some Resync
-unfolding first_kind kind_of kind_if first_policy disks work to_vault to_vault_resync answer and_then refused_if some_or resume_or_start answers.target_named related.already transfers.refused_rule answers.whether◌then◌otherwise◌ due.unless images.hole transfers.held_downstream
+unfolding first_kind kind_of kind_if first_policy disks work to_vault to_vault_resync answer and_then refused_if allowed refused some_or resume_or_start answers.target_named related.already transfers.refused_rule answers.whether◌then◌otherwise◌ due.unless images.hole transfers.held_downstream
 vault_resyncs = refl
 
 vault_resyncs_by : first_policy (course (empty_world disks) to_vault_resync) (course (empty_world disks) to_vault_resync).relations ≡ Vault
-unfolding first_kind kind_of kind_if first_policy disks work to_vault to_vault_resync answer and_then refused_if some_or resume_or_start answers.target_named related.already transfers.refused_rule answers.whether◌then◌otherwise◌ due.unless images.hole transfers.held_downstream
+unfolding first_kind kind_of kind_if first_policy disks work to_vault to_vault_resync answer and_then refused_if allowed refused some_or resume_or_start answers.target_named related.already transfers.refused_rule answers.whether◌then◌otherwise◌ due.unless images.hole transfers.held_downstream
 vault_resyncs_by = refl
 
 -- ---- they are courses that can be asked for

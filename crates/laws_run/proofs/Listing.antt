@@ -25,7 +25,8 @@ use Rattle.sm_model.specs.OfRelations as relations
 use Rattle.sm_model.specs.OfTransfers as transfers
 use Rattle.sm_model.specs.OfReport as reports
 use Rattle.laws_run.specs.Listed.{LacksName, IsHeld, IsHeldDownstream, IsDestination, IsKeepReached, IsListed}
-use Rattle.laws_run.proofs.Walk.{OfErr, past, with_found, with_ok, granted, from_err}
+use Rattle.laws_run.proofs.Walk.{OfErr, past, with_found, with_ok, granted, from_err, passing, passed}
+use Rattle.sm_defs.specs.Volume as lists
 
 -- ---- parts of answers
 
@@ -89,7 +90,7 @@ of_create w path disk kind logical physical =
     with_found _ _ _ _ (inl (inr (inl refl))) (λ len _.
     past _ _ _ _ (λ _. inl (inr (inr (inl refl)))) (λ _.
     past _ _ _ _ (λ _. inl (inr (inr (inr (inl refl))))) (λ _.
-    past _ _ _ _ (λ e. inr (len, ltb-true len (volumes.length_needed physical) e, refl)) (λ _.
+    past _ _ _ _ (λ e. inr (len, ltb-true len (lists.length_needed physical) e, refl)) (λ _.
     granted _ _))))))
 
 of_write : (w : Up) (path : List ℕ) (block fill : ℕ) → Meets (events.Write path block fill) (volumes.write w path block fill)
@@ -181,15 +182,15 @@ of_break : (w : Up) (destination : List ℕ) → Meets (events.Break destination
 unfolding Meets IsListed
 of_break w destination =
     with_ok _ _ _ (λ r e. of_two (untargeted w destination r e) (λ h. inl h) (λ h. inr (inl h))) (λ t _.
-    past _ _ _ _ (λ _. inr (inr (inl refl))) (λ _.
-    past _ _ _ _ (λ _. inr (inr (inr (inl refl)))) (λ _.
-    past _ _ _ _ (λ _. inr (inr (inr (inr (inl refl))))) (λ _.
+    passing _ _ _ _ _ (λ _. inr (inr (inl refl))) (λ _.
+    passing _ _ _ _ _ (λ _. inr (inr (inr (inl refl)))) (λ _.
+    passed _ _ _ _ (λ _. inr (inr (inr (inr (inl refl))))) (λ _.
     granted _ _))))
 
 of_delete : (w : Up) (destination : List ℕ) → Meets (events.Delete destination) (relations.delete w destination)
 unfolding Meets IsListed
 of_delete w destination =
-    with_ok _ _ _ (λ r e. of_two (untargeted w destination r e) (λ h. inl h) (λ h. inr (inl h))) (λ t _. past _ _ _ _ (λ _. inr (inr (inl refl))) (λ _. granted _ _))
+    with_ok _ _ _ (λ r e. of_two (untargeted w destination r e) (λ h. inl h) (λ h. inr (inl h))) (λ t _. passed _ _ _ _ (λ _. inr (inr (inl refl))) (λ _. granted _ _))
 
 of_release : (w : Up) (source destination : List ℕ) → Meets (events.Release source destination) (relations.release w source destination)
 unfolding Meets IsListed
@@ -197,8 +198,8 @@ of_release w source destination =
     with_found _ _ _ _ (inl refl) (λ s _.
     with_found _ _ _ _ (inr (inl refl)) (λ d _.
     with_found _ _ _ _ (inr (inr (inl refl))) (λ r _.
-    past _ _ _ _ (λ _. inr (inr (inr (inl refl)))) (λ _.
-    past _ _ _ _ (λ _. inr (inr (inr (inr (inl refl))))) (λ _.
+    passing _ _ _ _ _ (λ _. inr (inr (inr (inl refl)))) (λ _.
+    passed _ _ _ _ (λ _. inr (inr (inr (inr (inl refl))))) (λ _.
     granted _ _)))))
 
 -- ---- answers on transfers
@@ -218,21 +219,21 @@ of_initialize : (w : Up) (destination : List ℕ) → Meets (events.Initialize d
 unfolding Meets IsListed
 of_initialize w destination =
     with_ok _ _ _ (λ r e. inl (of_two (untargeted w destination r e) (λ h. inl h) (λ h. inr (inl h)))) (λ t _.
-    past _ _ _ _ (λ _. inl (inr (inr (inl refl)))) (λ _.
-    past _ _ _ _ (λ _. inl (inr (inr (inr (inl refl))))) (λ _.
-    past _ _ _ _ (λ _. inl (inr (inr (inr (inr (inl refl)))))) (λ _.
-    past _ _ _ _ (λ _. inl (inr (inr (inr (inr (inr (inl refl))))))) (λ _.
+    passing _ _ _ _ _ (λ _. inl (inr (inr (inl refl)))) (λ _.
+    passing _ _ _ _ _ (λ _. inl (inr (inr (inr (inl refl))))) (λ _.
+    passing _ _ _ _ _ (λ _. inl (inr (inr (inr (inr (inl refl)))))) (λ _.
+    passed _ _ _ _ (λ _. inl (inr (inr (inr (inr (inr (inl refl))))))) (λ _.
     of_resuming _ (inl (inr (inr (inr (inr (inr (inr (inl refl)))))))) (λ r h. inr h) w _ _ _ t.relation.item.transfer)))))
 
 of_update : (w : Up) (destination : List ℕ) → Meets (events.Update destination) (transfers.update w destination)
 unfolding Meets IsListed
 of_update w destination =
     with_ok _ _ _ (λ r e. inl (of_two (untargeted w destination r e) (λ h. inl h) (λ h. inr (inl h)))) (λ t _.
-    past _ _ _ _ (λ _. inl (inr (inr (inl refl)))) (λ _.
-    past _ _ _ _ (λ _. inl (inr (inr (inr (inl refl))))) (λ _.
-    past _ _ _ _ (λ _. inl (inr (inr (inr (inr (inl refl)))))) (λ _.
-    past _ _ _ _ (λ _. inl (inr (inr (inr (inr (inr (inl refl))))))) (λ _.
-    past _ _ _ _ (λ _. inl (inr (inr (inr (inr (inr (inr (inl refl)))))))) (λ _.
+    passing _ _ _ _ _ (λ _. inl (inr (inr (inl refl)))) (λ _.
+    passing _ _ _ _ _ (λ _. inl (inr (inr (inr (inl refl))))) (λ _.
+    passing _ _ _ _ _ (λ _. inl (inr (inr (inr (inr (inl refl)))))) (λ _.
+    passing _ _ _ _ _ (λ _. inl (inr (inr (inr (inr (inr (inl refl))))))) (λ _.
+    passed _ _ _ _ (λ _. inl (inr (inr (inr (inr (inr (inr (inl refl)))))))) (λ _.
     of_resuming _ (inl (inr (inr (inr (inr (inr (inr (inr (inl refl))))))))) (λ r h. inr h) w _ _ _ t.relation.item.transfer))))))
 
 of_abort : (w : Up) (destination : List ℕ) (hard : Bool) → Meets (events.Abort destination hard) (transfers.abort w destination hard)
@@ -240,17 +241,17 @@ unfolding Meets IsListed
 of_abort w destination hard =
     with_ok _ _ _ (λ r e. of_two (untargeted w destination r e) (λ h. inl h) (λ h. inr (inl h))) (λ d _.
     with_found _ _ _ _ (inr (inr (inl refl))) (λ t _.
-    past _ _ _ _ (λ _. inr (inr (inl refl))) (λ _.
+    passed _ _ _ _ (λ _. inr (inr (inl refl))) (λ _.
     either _ _ _ _ (granted _ _) (granted _ _))))
 
 of_resync : (w : Up) (destination : List ℕ) → Meets (events.Resync destination) (transfers.resync w destination)
 unfolding Meets IsListed
 of_resync w destination =
     with_ok _ _ _ (λ r e. inl (of_two (untargeted w destination r e) (λ h. inl h) (λ h. inr (inl h)))) (λ d _.
-    past _ _ _ _ (λ _. inl (inr (inr (inl refl)))) (λ _.
-    past _ _ _ _ (λ _. inl (inr (inr (inr (inl refl))))) (λ _.
-    past _ _ _ _ (λ _. inl (inr (inr (inr (inr (inl refl)))))) (λ _.
-    past _ _ _ _ (λ _. inl (inr (inr (inr (inr (inr (inl refl))))))) (λ _.
+    passing _ _ _ _ _ (λ _. inl (inr (inr (inl refl)))) (λ _.
+    passing _ _ _ _ _ (λ _. inl (inr (inr (inr (inl refl))))) (λ _.
+    passing _ _ _ _ _ (λ _. inl (inr (inr (inr (inr (inl refl)))))) (λ _.
+    passed _ _ _ _ (λ _. inl (inr (inr (inr (inr (inr (inl refl))))))) (λ _.
     with_found _ _ _ _ (inl (inr (inr (inr (inr (inr (inr (inl refl)))))))) (λ c _.
     with_ok _ _ _ (λ r e. inr (inl (of_downstream _ r e))) (λ _ _.
     with_ok _ _ _ (λ r e. inr (inr (of_full_rule _ r e))) (λ _ _.

@@ -1,7 +1,8 @@
 -- How to go through an answer, refusal by refusal.
 use Rattle.std.proofs.Common.{◌≡◌, Bool, true, false, Option, Some, None, Result, Ok, Err, refl, subst}
+use Rattle.sm_defs.specs.May.{refused}
 use Rattle.sm_base.specs.declared.refusal.Refusal.{Refusal}
-use Rattle.sm_model.specs.Answers.{and_then, refused_if, some_or, ◌>>=◌, ◌>>◌, ◌when◌}
+use Rattle.sm_model.specs.Answers.{and_then, refused_if, allowed, some_or, ◌>>=◌, ◌>>◌, ◌when◌}
 
 -- Q of what is refused
 pub OfErr : {A : Type 0} → (Refusal → Type 0) → Result A Refusal → Type 0
@@ -13,6 +14,18 @@ pub past : {A : Type 0} (Q : Refusal → Type 0) (r : Refusal) (b : Bool) (m : R
 unfolding OfErr and_then refused_if
 past Q r true m q h = q refl
 past Q r false m q h = h refl
+
+-- past a test of a command, with others behind it
+pub passing : {A : Type 0} (Q : Refusal → Type 0) (r : Refusal) (b : Bool) (o : Option Refusal) (m : Result A Refusal) → (b ≡ true → Q r) → (b ≡ false → OfErr Q (allowed o >> m)) → OfErr Q (allowed (refused r b o) >> m)
+unfolding OfErr and_then allowed refused
+passing Q r true o m q h = q refl
+passing Q r false o m q h = h refl
+
+-- past the last test of a command
+pub passed : {A : Type 0} (Q : Refusal → Type 0) (r : Refusal) (b : Bool) (m : Result A Refusal) → (b ≡ true → Q r) → (b ≡ false → OfErr Q m) → OfErr Q (allowed (refused r b None) >> m)
+unfolding OfErr and_then allowed refused
+passed Q r true m q h = q refl
+passed Q r false m q h = h refl
 
 -- with what was found
 pub with_found : {A B : Type 0} (Q : Refusal → Type 0) (r : Refusal) (o : Option A) (f : A → Result B Refusal) → Q r → ((x : A) → o ≡ Some x → OfErr Q (f x)) → OfErr Q (some_or r o >>= f)

@@ -4,7 +4,7 @@ use Rattle.sm_base.specs.declared.numbers.DiskNo.{DiskNo}
 use Rattle.sm_base.specs.declared.numbers.Kind.{Kind}
 use Rattle.sm_base.specs.declared.numbers.Side.{Side}
 use Rattle.sm_base.specs.declared.refusal.Refusal.{Refusal}
-use Rattle.sm_defs.specs.Volume.{new_volume}
+use Rattle.sm_defs.specs.Volume.{new_volume, length_needed}
 use Rattle.sm_defs.specs.World.{Up, empty_world}
 use Rattle.sm_model.specs.declared.event.Event.{Event}
 use Rattle.sm_model.specs.declared.event.Event.TheVariants as events
@@ -12,7 +12,7 @@ use Rattle.sm_model.specs.declared.reply.Entry.{Entry}
 use Rattle.sm_model.specs.declared.reply.Reply.TheVariants as replies
 use Rattle.sm_model.specs.Answers.{◌and◌, volno}
 use Rattle.sm_model.specs.Answer.{answer}
-use Rattle.sm_model.specs.OfVolumes.{length_needed, with_new_volume}
+use Rattle.sm_model.specs.OfVolumes.{with_new_volume}
 use Rattle.sm_model.specs.World.{World, up, Deed}
 use Rattle.sm_model.specs.LegalRun.{Fits, Run}
 use Rattle.sm_model.specs.Sound.{SoundUp, Sound}

@@ -8,7 +8,7 @@ use Rattle.sm_base.specs.declared.refusal.What.TheVariants.{Volumes, Policies, R
 use Rattle.sm_defs.specs.Words.{Among}
 use Rattle.sm_model.specs.declared.event.Event.{Event}
 use Rattle.sm_model.specs.declared.event.Event.TheVariants as events
-use Rattle.sm_model.specs.OfVolumes.{length_needed}
+use Rattle.sm_defs.specs.Volume.{length_needed}
 
 -- the disk has so many bytes, which are too few
 abbrev pub IsTooSmall : ℕ → Refusal → Type 0

@@ -4,11 +4,11 @@ use Rattle.std.proofs.lemmas.Bool.{and_parts, and_from, not-true, not_from_false
 use Rattle.std.proofs.lemmas.Option.{same_Some}
 use Rattle.std.specs.Prelude.{slice_get}
 use Rattle.std.specs.List.{filter, AllByRecursion}
-use Rattle.sm_defs.specs.Words.{Among}
+use Rattle.sm_defs.specs.Words.{Among, Ascends}
 use Rattle.sm_defs.specs.Image.{Block, Image, tags, stands}
 use Rattle.sm_defs.specs.Volume.{Snapshot, image_of}
 use Rattle.sm_defs.specs.Missing.{Bases, insert_once, ascending, tags_in, is_missing_tag, missing_tags, mirror_cost, first_tag, rest, is_missing_at, missing_from, missing_places, vault_cost}
-use Rattle.laws_transfer.specs.Costs.{Ascends, HaveTag, tag_at, IsMissingTag, IsMissingPlace}
+use Rattle.laws_transfer.specs.Costs.{HaveTag, tag_at, IsMissingTag, IsMissingPlace}
 use Rattle.laws_transfer.proofs.Lists.{stands_among, among_stands, among_flat_map, from_flat_map, filter_among, among_filter}
 
 pub each_among : {X : Type 0} (P : X → Type 0) (xs : List X) → ((x : X) → Among xs x → P x) → AllByRecursion P xs

@@ -8,6 +8,7 @@ use Rattle.std.specs.Option.{option_eq}
 use Rattle.std.specs.Str.{bytes_eq}
 use Rattle.std.specs.List.{filter, find}
 use Rattle.sm_base.specs.declared.numbers.Ident.{Ident}
+use Rattle.sm_defs.specs.Classes.{classes}
 use Rattle.sm_defs.specs.Words.{Among, last_that, or_earlier, is_ident, has_ident}
 use Rattle.sm_defs.specs.Volume.{Snapshot, has}
 use Rattle.sm_defs.specs.Relationship.{Rule, Policy, Relationship, sends_all, rule_for, legs_of}
@@ -15,7 +16,7 @@ use Rattle.sm_defs.specs.World.{Up}
 use Rattle.sm_defs.specs.Edges.{mirror_edges, upstream}
 use Rattle.sm_defs.specs.Needed.{needed, needed_for, needed_at_source, needed_at_destination}
 use Rattle.sm_defs.specs.Thinned.{Thinned, end, kept, left_out}
-use Rattle.sm_defs.specs.Retention.{retained, keeps, labels, labelled, keeps_by_rule, is_reached, keep_reached}
+use Rattle.sm_defs.specs.Retention.{retained, keeps, labelled, keeps_by_rule, is_reached, keep_reached}
 use Rattle.sm_defs.specs.Pruning.{is_made, covered, is_pruned, pruned}
 use Rattle.sm_defs.specs.Common.{common}
 use Rattle.laws_transfer.specs.Keeping.{IsReached, IsWanted}
@@ -24,24 +25,24 @@ use Rattle.laws_transfer.proofs.Lists.{any_among, filter_among, among_filter, is
 
 -- ---- retention
 
-pub keeps_needed : (rules : List Rule) (needs : Ident → Bool) (ss : List Snapshot) (s : Snapshot) → Among ss s → needs s.ident ≡ true → Among (retained rules needs ss) s
-keeps_needed rules needs [] s m e = absurd m
-keeps_needed rules needs (x ∷ newer) s m e = go (keeps rules needs x (retained rules needs newer)) refl m (keeps_needed rules needs newer s)
+pub keeps_needed : (rules : List Rule) (class : Snapshot → Option (List ℕ)) (needs : Ident → Bool) (ss : List Snapshot) (s : Snapshot) → Among ss s → needs s.ident ≡ true → Among (retained rules class needs ss) s
+keeps_needed rules class needs [] s m e = absurd m
+keeps_needed rules class needs (x ∷ newer) s m e = go (keeps rules class needs x (retained rules class needs newer)) refl m (keeps_needed rules class needs newer s)
   where
-    go : (b : Bool) → keeps rules needs x (retained rules needs newer) ≡ b → (s ≡ x) ⊎ Among newer s → (Among newer s → needs s.ident ≡ true → Among (retained rules needs newer) s) →
-        Among (cond b (x ∷ retained rules needs newer) (retained rules needs newer)) s
+    go : (b : Bool) → keeps rules class needs x (retained rules class needs newer) ≡ b → (s ≡ x) ⊎ Among newer s → (Among newer s → needs s.ident ≡ true → Among (retained rules class needs newer) s) →
+        Among (cond b (x ∷ retained rules class needs newer) (retained rules class needs newer)) s
     go true f (inl k) ih = inl k
     go true f (inr n) ih = inr (ih n e)
-    go false f (inl k) ih = absurd (both_ways (keeps rules needs x (retained rules needs newer)) f (or_left (needs x.ident) _ (subst (λ y. needs y.ident ≡ true) k e)))
+    go false f (inl k) ih = absurd (both_ways (keeps rules class needs x (retained rules class needs newer)) f (or_left (needs x.ident) _ (subst (λ y. needs y.ident ≡ true) k e)))
     go false f (inr n) ih = ih n e
 
 thin_go : {X : Type 0} (b : Bool) (x : X) (xs ys : List X) → Thinned xs ys → Thinned (cond b (x ∷ xs) xs) (x ∷ ys)
 thin_go true x xs ys h = kept h
 thin_go false x xs ys h = left_out h
 
-pub thins : (rules : List Rule) (needs : Ident → Bool) (ss : List Snapshot) → Thinned (retained rules needs ss) ss
-thins rules needs [] = end
-thins rules needs (x ∷ newer) = thin_go (keeps rules needs x (retained rules needs newer)) x (retained rules needs newer) newer (thins rules needs newer)
+pub thins : (rules : List Rule) (class : Snapshot → Option (List ℕ)) (needs : Ident → Bool) (ss : List Snapshot) → Thinned (retained rules class needs ss) ss
+thins rules class needs [] = end
+thins rules class needs (x ∷ newer) = thin_go (keeps rules class needs x (retained rules class needs newer)) x (retained rules class needs newer) newer (thins rules class needs newer)
 
 abbrev Begins : List Snapshot → List Snapshot → List Snapshot → Type 0
 Begins older all kept_newer = (front : List Snapshot) × Thinned front older × (all ≡ front ++ kept_newer)
@@ -50,11 +51,11 @@ begin_go : (b : Bool) (x : Snapshot) (older all kept_newer : List Snapshot) → 
 begin_go true x older all kept_newer (front, h, e) = (x ∷ front, kept h, ap (λ ys. x ∷ ys) e)
 begin_go false x older all kept_newer (front, h, e) = (front, left_out h, e)
 
-pub begins : (rules : List Rule) (needs : Ident → Bool) (older newer : List Snapshot) →
-    (front : List Snapshot) × Thinned front older × (retained rules needs (older ++ newer) ≡ front ++ retained rules needs newer)
-begins rules needs [] newer = ([], end, refl)
-begins rules needs (x ∷ older) newer =
-    begin_go (keeps rules needs x (retained rules needs (older ++ newer))) x older (retained rules needs (older ++ newer)) (retained rules needs newer) (begins rules needs older newer)
+pub begins : (rules : List Rule) (class : Snapshot → Option (List ℕ)) (needs : Ident → Bool) (older newer : List Snapshot) →
+    (front : List Snapshot) × Thinned front older × (retained rules class needs (older ++ newer) ≡ front ++ retained rules class needs newer)
+begins rules class needs [] newer = ([], end, refl)
+begins rules class needs (x ∷ older) newer =
+    begin_go (keeps rules class needs x (retained rules class needs (older ++ newer))) x older (retained rules class needs (older ++ newer)) (retained rules class needs newer) (begins rules class needs older newer)
 
 by_rule : (o : Option Rule) (rule : Rule) → o ≡ Some rule → (rule.preserve ≡ true) ⊎ (0 < rule.keep) → keeps_by_rule o 0 ≡ true
 by_rule None rule e h = absurd (cc)
@@ -64,11 +65,11 @@ by_rule (Some other) rule e h = subst (λ r. (r.preserve || nat_lt 0 r.keep) ≡
     go (inl k) = or_left rule.preserve (nat_lt 0 rule.keep) k
     go (inr l) = or_right rule.preserve (nat_lt 0 rule.keep) (lt-ltb 0 rule.keep l)
 
-pub newest_stays : (rules : List Rule) (needs : Ident → Bool) (older : List Snapshot) (s : Snapshot) → IsWanted rules s →
-    (front : List Snapshot) × Thinned front older × (retained rules needs (older ++ s ∷ []) ≡ front ++ s ∷ [])
-newest_stays rules needs older s (rule, e, h) =
-    let k : keeps rules needs s [] ≡ true = or_right (needs s.ident) (keeps_by_rule (rule_for rules s.label) 0) (by_rule (rule_for rules s.label) rule e h) in
-    let (front, t, f) = begins rules needs older (s ∷ []) in
+pub newest_stays : (rules : List Rule) (class : Snapshot → Option (List ℕ)) (needs : Ident → Bool) (older : List Snapshot) (s : Snapshot) → IsWanted rules class s →
+    (front : List Snapshot) × Thinned front older × (retained rules class needs (older ++ s ∷ []) ≡ front ++ s ∷ [])
+newest_stays rules class needs older s (rule, e, h) =
+    let k : keeps rules class needs s [] ≡ true = or_right (needs s.ident) (keeps_by_rule (rule_for rules (class s)) 0) (by_rule (rule_for rules (class s)) rule e h) in
+    let (front, t, f) = begins rules class needs older (s ∷ []) in
     (front, t, f ∙ ap (λ b. front ++ cond b (s ∷ []) []) k)
 
 label_is : (o : Option (List ℕ)) (label : List ℕ) → option_eq bytes_eq o (Some label) ≡ true → o ≡ Some label
@@ -82,38 +83,38 @@ room_left c rule p e = go (or_cases rule.preserve (nat_lt c rule.keep) e)
     go (inl k) = absurd (both_ways rule.preserve p k)
     go (inr k) = ltb-true c rule.keep k
 
-room : (rules : List Rule) (needs : Ident → Bool) (x : Snapshot) (others : List Snapshot) (rule : Rule) (label : List ℕ) → needs x.ident ≡ false → x.label ≡ Some label → rule_for rules (Some label) ≡ Some rule → rule.preserve ≡ false →
-    keeps rules needs x others ≡ true → labelled (Some label) (labels others) < rule.keep
-room rules needs x others rule label n e r p h = go (or_cases (needs x.ident) (keeps_by_rule (rule_for rules x.label) (labelled x.label (labels others))) h)
+room : (rules : List Rule) (class : Snapshot → Option (List ℕ)) (needs : Ident → Bool) (x : Snapshot) (others : List Snapshot) (rule : Rule) (label : List ℕ) → needs x.ident ≡ false → class x ≡ Some label → rule_for rules (Some label) ≡ Some rule → rule.preserve ≡ false →
+    keeps rules class needs x others ≡ true → labelled (Some label) (classes class others) < rule.keep
+room rules class needs x others rule label n e r p h = go (or_cases (needs x.ident) (keeps_by_rule (rule_for rules (class x)) (labelled (class x) (classes class others))) h)
   where
-    go : (needs x.ident ≡ true) ⊎ (keeps_by_rule (rule_for rules x.label) (labelled x.label (labels others)) ≡ true) → labelled (Some label) (labels others) < rule.keep
+    go : (needs x.ident ≡ true) ⊎ (keeps_by_rule (rule_for rules (class x)) (labelled (class x) (classes class others)) ≡ true) → labelled (Some label) (classes class others) < rule.keep
     go (inl k) = absurd (both_ways (needs x.ident) n k)
     go (inr k) =
-        let l : keeps_by_rule (rule_for rules (Some label)) (labelled (Some label) (labels others)) ≡ true = subst (λ o. keeps_by_rule (rule_for rules o) (labelled o (labels others)) ≡ true) e k in
-        room_left (labelled (Some label) (labels others)) rule p (subst (λ o. keeps_by_rule o (labelled (Some label) (labels others)) ≡ true) r l)
+        let l : keeps_by_rule (rule_for rules (Some label)) (labelled (Some label) (classes class others)) ≡ true = subst (λ o. keeps_by_rule (rule_for rules o) (labelled o (classes class others)) ≡ true) e k in
+        room_left (labelled (Some label) (classes class others)) rule p (subst (λ o. keeps_by_rule o (labelled (Some label) (classes class others)) ≡ true) r l)
 
-one_more : (x : Snapshot) (others : List Snapshot) (label : List ℕ) (b : Bool) (most : ℕ) → option_eq bytes_eq x.label (Some label) ≡ b → labelled (Some label) (labels others) ≤ most → (b ≡ true → labelled (Some label) (labels others) < most) →
-    labelled (Some label) (labels (x ∷ others)) ≤ most
-one_more x others label true most e l h =
-    let s : labelled (Some label) (labels (x ∷ others)) ≡ cond (option_eq bytes_eq x.label (Some label)) 1 0 + labelled (Some label) (labels others) = sum_by-cons (λ o. cond (option_eq bytes_eq o (Some label)) 1 0) x.label (labels others) in
-    let k : labelled (Some label) (labels (x ∷ others)) ≡ 1 + labelled (Some label) (labels others) = s ∙ ap (λ c. cond c 1 0 + labelled (Some label) (labels others)) e in
-    let m : labelled (Some label) (labels others) < most = h refl in
+one_more : (class : Snapshot → Option (List ℕ)) (x : Snapshot) (others : List Snapshot) (label : List ℕ) (b : Bool) (most : ℕ) → option_eq bytes_eq (class x) (Some label) ≡ b → labelled (Some label) (classes class others) ≤ most → (b ≡ true → labelled (Some label) (classes class others) < most) →
+    labelled (Some label) (classes class (x ∷ others)) ≤ most
+one_more class x others label true most e l h =
+    let s : labelled (Some label) (classes class (x ∷ others)) ≡ cond (option_eq bytes_eq (class x) (Some label)) 1 0 + labelled (Some label) (classes class others) = sum_by-cons (λ o. cond (option_eq bytes_eq o (Some label)) 1 0) (class x) (classes class others) in
+    let k : labelled (Some label) (classes class (x ∷ others)) ≡ 1 + labelled (Some label) (classes class others) = s ∙ ap (λ c. cond c 1 0 + labelled (Some label) (classes class others)) e in
+    let m : labelled (Some label) (classes class others) < most = h refl in
     subst (λ n. n ≤ most) (sym k) (omega arith)
-one_more x others label false most e l h =
-    let s : labelled (Some label) (labels (x ∷ others)) ≡ cond (option_eq bytes_eq x.label (Some label)) 1 0 + labelled (Some label) (labels others) = sum_by-cons (λ o. cond (option_eq bytes_eq o (Some label)) 1 0) x.label (labels others) in
-    let k : labelled (Some label) (labels (x ∷ others)) ≡ 0 + labelled (Some label) (labels others) = s ∙ ap (λ c. cond c 1 0 + labelled (Some label) (labels others)) e in
+one_more class x others label false most e l h =
+    let s : labelled (Some label) (classes class (x ∷ others)) ≡ cond (option_eq bytes_eq (class x) (Some label)) 1 0 + labelled (Some label) (classes class others) = sum_by-cons (λ o. cond (option_eq bytes_eq o (Some label)) 1 0) (class x) (classes class others) in
+    let k : labelled (Some label) (classes class (x ∷ others)) ≡ 0 + labelled (Some label) (classes class others) = s ∙ ap (λ c. cond c 1 0 + labelled (Some label) (classes class others)) e in
     subst (λ n. n ≤ most) (sym k) (omega arith)
 
-pub no_more : (rules : List Rule) (needs : Ident → Bool) (ss : List Snapshot) (rule : Rule) (label : List ℕ) → ((s : Snapshot) → Among ss s → needs s.ident ≡ false) →
-    rule_for rules (Some label) ≡ Some rule → rule.preserve ≡ false → labelled (Some label) (labels (retained rules needs ss)) ≤ rule.keep
-no_more rules needs [] rule label n r p = omega arith
-no_more rules needs (x ∷ newer) rule label n r p = go (keeps rules needs x (retained rules needs newer)) refl (no_more rules needs newer rule label (λ s m. n s (inr m)) r p)
+pub no_more : (rules : List Rule) (class : Snapshot → Option (List ℕ)) (needs : Ident → Bool) (ss : List Snapshot) (rule : Rule) (label : List ℕ) → ((s : Snapshot) → Among ss s → needs s.ident ≡ false) →
+    rule_for rules (Some label) ≡ Some rule → rule.preserve ≡ false → labelled (Some label) (classes class (retained rules class needs ss)) ≤ rule.keep
+no_more rules class needs [] rule label n r p = omega arith
+no_more rules class needs (x ∷ newer) rule label n r p = go (keeps rules class needs x (retained rules class needs newer)) refl (no_more rules class needs newer rule label (λ s m. n s (inr m)) r p)
   where
-    go : (b : Bool) → keeps rules needs x (retained rules needs newer) ≡ b → labelled (Some label) (labels (retained rules needs newer)) ≤ rule.keep →
-        labelled (Some label) (labels (cond b (x ∷ retained rules needs newer) (retained rules needs newer))) ≤ rule.keep
+    go : (b : Bool) → keeps rules class needs x (retained rules class needs newer) ≡ b → labelled (Some label) (classes class (retained rules class needs newer)) ≤ rule.keep →
+        labelled (Some label) (classes class (cond b (x ∷ retained rules class needs newer) (retained rules class needs newer))) ≤ rule.keep
     go true h l =
-        one_more x (retained rules needs newer) label (option_eq bytes_eq x.label (Some label)) rule.keep refl l
-        (λ e. room rules needs x (retained rules needs newer) rule label (n x (inl refl)) (label_is x.label label e) r p h)
+        one_more class x (retained rules class needs newer) label (option_eq bytes_eq (class x) (Some label)) rule.keep refl l
+        (λ e. room rules class needs x (retained rules class needs newer) rule label (n x (inl refl)) (label_is (class x) label e) r p h)
     go false h l = l
 
 -- ---- the first of a list

@@ -4,11 +4,11 @@ use Rattle.std.proofs.lemmas.Bool.{not-true, not_from_false, eqb-false, cases_eq
 use Rattle.std.proofs.lemmas.Option.{same_Some}
 use Rattle.std.specs.Prelude.{slice_get}
 use Rattle.std.specs.List.{filter}
-use Rattle.sm_defs.specs.Words.{Among}
+use Rattle.sm_defs.specs.Words.{Among, Ascends}
 use Rattle.sm_defs.specs.Image.{Block, Image, SameContents, bytes_of, hole, stands, tags, tag_of}
 use Rattle.sm_defs.specs.Volume.{Volume, numbers, free_tags, tags_of}
 use Rattle.sm_defs.specs.Missing.{Bases, first_tag, first_block, first_number, rest, moved, is_missing_at, missing_from, missing_places, vault_cost, landed_from, vault_landing}
-use Rattle.laws_transfer.specs.Costs.{Ascends, tag_at}
+use Rattle.laws_transfer.specs.Costs.{tag_at}
 use Rattle.laws_transfer.specs.Landing.{LandsWhole, LandsFree, missing_numbers_from, landed_numbers}
 use Rattle.laws_transfer.proofs.Lists.{filter_among, among_filter}
 use Rattle.laws_transfer.proofs.Asc.{each_among, among_each, next_tag, first_is_at, missing_cases}

@@ -1,14 +1,16 @@
 -- What a transfer sends.
-use Rattle.std.proofs.Common.{◌≡◌, ◌↔◌, ◌++◌, ℕ, not, Bool, true, false, cond, List, [], ◌∷◌, Option, Some, None, is_some, refl, sym, subst, inr}
+use Rattle.std.proofs.Common.{◌≡◌, ◌↔◌, ◌++◌, ℕ, not, Bool, true, false, cond, List, [], ◌∷◌, Option, Some, None, is_some, refl, sym, subst, ◌∙◌, inr}
 use Rattle.std.proofs.lemmas.Bool.{not-true, not_from_false, both_ways, false_from_ne_true}
 use Rattle.std.specs.List.{filter}
 use Rattle.sm_base.specs.declared.numbers.Ident.{Ident}
 use Rattle.sm_base.specs.declared.numbers.Kind.{Kind}
 use Rattle.sm_base.specs.declared.numbers.Kind.TheVariants.{Rw, Dp}
+use Rattle.sm_defs.proofs.Classes.{vault_has_class}
+use Rattle.sm_defs.specs.Classes.{has_class}
 use Rattle.sm_defs.specs.Words.{Among}
 use Rattle.sm_defs.specs.Volume.{Snapshot, idents, ident_of, has}
 use Rattle.sm_defs.specs.Relationship.{Policy, Rule, is_mirror, sends_all, rule_for}
-use Rattle.sm_defs.specs.Legs.{Source, Legs, legs, after_base, candidates, only_newest, made_ident, mirror_legs, vault_legs, has_rule}
+use Rattle.sm_defs.specs.Legs.{Source, Legs, legs, after_base, candidates, only_newest, made_ident, mirror_legs, vault_legs}
 use Rattle.laws_transfer.specs.Sending.{IsNew, IsNewIdent, HasRule}
 use Rattle.laws_transfer.proofs.Lists.{among_left, among_map, from_map, filter_among, among_filter, copy_from_has, has_from_copy}
 
@@ -46,10 +48,10 @@ mirror_good base source destination transfer true Dp = (λ e. some_new base sour
 mirror_good base source destination transfer false Dp =
     (λ e. some_new base source destination (only_newest (candidates base source.snapshots destination)) (newest_among (candidates base source.snapshots destination)), λ e. absurd (cc))
 
-vault_good : (base : Option Ident) (source : Source) (destination : List Snapshot) (transfer : ℕ) (rules : List Rule) →
-    Good base source destination transfer (vault_legs rules (candidates base source.snapshots destination))
-vault_good base source destination transfer rules = (
-  λ e. some_new base source destination (filter (has_rule rules) (candidates base source.snapshots destination)) (λ s m. (among_filter (has_rule rules) (candidates base source.snapshots destination) s m).0),
+vault_good : (base : Option Ident) (source : Source) (destination : List Snapshot) (transfer : ℕ) (policy : Policy) →
+    Good base source destination transfer (vault_legs policy (candidates base source.snapshots destination))
+vault_good base source destination transfer policy = (
+  λ e. some_new base source destination (filter (has_class policy) (candidates base source.snapshots destination)) (λ s m. (among_filter (has_class policy) (candidates base source.snapshots destination) s m).0),
   λ e. absurd (cc),
 )
 
@@ -62,9 +64,9 @@ pub legs_new : (transfer : ℕ) (policy : Policy) (base : Option Ident) (source 
 legs_new transfer policy base source destination =
     either_good base source destination transfer (is_mirror policy.kind)
     (mirror_legs (sends_all policy) source.kind (made_ident source.number transfer) (candidates base source.snapshots destination))
-    (vault_legs policy.rules (candidates base source.snapshots destination))
+    (vault_legs policy (candidates base source.snapshots destination))
     (mirror_good base source destination transfer (sends_all policy) source.kind)
-    (vault_good base source destination transfer policy.rules)
+    (vault_good base source destination transfer policy)
 
 some_is : {X : Type 0} (o : Option X) → is_some o ≡ true → (x : X) × (o ≡ Some x)
 some_is None e = absurd (cc)
@@ -77,17 +79,17 @@ pub vault_sends : (transfer : ℕ) (policy : Policy) (base : Option Ident) (sour
     (i : Ident) → Among (legs transfer policy base source destination).idents i ↔ ((s : Snapshot) × IsNew base source destination s × HasRule policy.rules s × (s.ident ≡ i))
 vault_sends transfer policy base source destination e i = rw e (there, back)
   where
-    there : Among (idents (filter (has_rule policy.rules) (candidates base source.snapshots destination))) i → (s : Snapshot) × IsNew base source destination s × HasRule policy.rules s × (s.ident ≡ i)
+    there : Among (idents (filter (has_class policy) (candidates base source.snapshots destination))) i → (s : Snapshot) × IsNew base source destination s × HasRule policy.rules s × (s.ident ≡ i)
     there m =
-        let (s, n, k) = from_map ident_of (filter (has_rule policy.rules) (candidates base source.snapshots destination)) i m in
-        let f = among_filter (has_rule policy.rules) (candidates base source.snapshots destination) s n in
-        (s, new_from base source destination s f.0, some_is (rule_for policy.rules s.label) f.1, sym k)
+        let (s, n, k) = from_map ident_of (filter (has_class policy) (candidates base source.snapshots destination)) i m in
+        let f = among_filter (has_class policy) (candidates base source.snapshots destination) s n in
+        (s, new_from base source destination s f.0, some_is (rule_for policy.rules s.label) (sym (vault_has_class policy s e) ∙ f.1), sym k)
 
-    back : (s : Snapshot) × IsNew base source destination s × HasRule policy.rules s × (s.ident ≡ i) → Among (idents (filter (has_rule policy.rules) (candidates base source.snapshots destination))) i
+    back : (s : Snapshot) × IsNew base source destination s × HasRule policy.rules s × (s.ident ≡ i) → Among (idents (filter (has_class policy) (candidates base source.snapshots destination))) i
     back (s, n, (rule, r), k) =
-        subst (Among (idents (filter (has_rule policy.rules) (candidates base source.snapshots destination)))) k
-        (among_map ident_of (filter (has_rule policy.rules) (candidates base source.snapshots destination)) s
-        (filter_among (has_rule policy.rules) (candidates base source.snapshots destination) s (to_new base source destination s n) (is_some_of (rule_for policy.rules s.label) rule r)))
+        subst (Among (idents (filter (has_class policy) (candidates base source.snapshots destination)))) k
+        (among_map ident_of (filter (has_class policy) (candidates base source.snapshots destination)) s
+        (filter_among (has_class policy) (candidates base source.snapshots destination) s (to_new base source destination s n) (vault_has_class policy s e ∙ is_some_of (rule_for policy.rules s.label) rule r)))
 
 all_sent : (kind : Kind) (made : Ident) (ss : List Snapshot) (s : Snapshot) → Among ss s → Among (mirror_legs true kind made ss).idents s.ident
 all_sent Rw made ss s m = among_left (idents ss) (made ∷ []) s.ident (among_map ident_of ss s m)

@@ -1,15 +1,9 @@
 -- The laws of what a leg costs.
-use Rattle.std.specs.Prelude.{◌≡◌, ◌≢◌, ◌↔◌, ◌⊎◌, ◌<◌, ℕ, zero, suc, List, [], ◌∷◌, Some, slice_get}
-use Rattle.std.specs.List.{AllByRecursion}
-use Rattle.sm_defs.specs.Words.{Among}
+use Rattle.std.specs.Prelude.{◌≡◌, ◌≢◌, ◌↔◌, ◌⊎◌, ℕ, zero, suc, List, [], ◌∷◌, Some, slice_get}
+use Rattle.sm_defs.specs.Words.{Among, Ascends}
 use Rattle.sm_defs.specs.Image.{Block, Image, tags}
 use Rattle.sm_defs.specs.Volume.{Snapshot}
 use Rattle.sm_defs.specs.Missing.{Bases, missing_tags, mirror_cost, missing_places, vault_cost}
-
--- each number is less than all that follow, so each stands once
-abbrev pub Ascends : List ℕ → Type 0
-Ascends [] = Unit {0}
-Ascends (t ∷ ts) = AllByRecursion (λ u. t < u) ts × Ascends ts
 
 -- some snapshot of the list has a block of the tag
 abbrev pub HaveTag : List Snapshot → ℕ → Type 0

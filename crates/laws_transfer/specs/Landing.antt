@@ -1,10 +1,10 @@
 -- The laws of what lands at a vault.
 use Rattle.std.specs.Prelude.{◌≡◌, ◌≢◌, ◌↔◌, ◌⊎◌, ◌≤◌, ◌==◌, ℕ, suc, cond, false, List, [], ◌∷◌, length, Some, slice_get}
-use Rattle.sm_defs.specs.Words.{Among}
+use Rattle.sm_defs.specs.Words.{Among, Ascends}
 use Rattle.sm_defs.specs.Image.{Block, Image, SameContents, hole, stands, tags}
 use Rattle.sm_defs.specs.Volume.{Volume, tags_of, free_tags}
 use Rattle.sm_defs.specs.Missing.{Bases, missing_places, vault_cost, vault_landing, moved, is_missing_at, first_number, rest}
-use Rattle.laws_transfer.specs.Costs.{Ascends, tag_at}
+use Rattle.laws_transfer.specs.Costs.{tag_at}
 
 -- holes read as zeros; a block that the leg and the source's base share has the bytes of the destination's base there
 pub record LandsWhole (leg : Image) (bases : Bases) : Type 0 where

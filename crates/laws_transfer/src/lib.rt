@@ -75,7 +75,7 @@ pub fn retention_thins()
 {}
 
 /// A snapshot stays exactly where it is needed, its rule preserves, or fewer than its rule's number of
-/// newer ones with its label are kept.
+/// newer ones of its class are kept.
 pub fn retention_keeps_by_reason()
     ensures { RetentionKeepsByReason }
 {}
@@ -85,7 +85,7 @@ pub fn retention_begins_at_the_newest()
     ensures { RetentionBeginsAtTheNewest }
 {}
 
-/// The newest snapshot stays where its label has a rule that preserves or keeps at least one.
+/// The newest snapshot stays where its class has a rule that preserves or keeps at least one.
 pub fn retention_keeps_the_newest()
     ensures { RetentionKeepsTheNewest }
 {}

@@ -3,7 +3,7 @@
 //! It has no disks, no script and no threads, and no disk fails in it. It is slow: there to try the
 //! definitions on small worlds, and for histories to be compared with. Each function answers its
 //! definition, and changes the world as that says. An `Err` leaves the world unspecified.
-#![tactic(auto, unfolding(sm_model::specs::Answers::and_then, sm_model::specs::Answers::refused_if, sm_model::specs::Answers::some_or, sm_model::specs::OfVolumes::held, sm_model::specs::OfRelations::already))]
+#![tactic(auto, unfolding(sm_model::specs::Answers::and_then, sm_model::specs::Answers::refused_if, sm_model::specs::Answers::some_or, sm_model::specs::Answers::allowed, sm_defs::specs::May::refused, sm_model::specs::OfVolumes::held, sm_model::specs::OfRelations::already))]
 
 mod acting;
 mod asked;

@@ -8,17 +8,17 @@ use Rattle.sm_defs.specs.Volume.{Snapshot}
 use Rattle.sm_defs.specs.Relationship.{Rule}
 use Rattle.sm_defs.specs.Legs.{only_newest}
 use Rattle.sm_defs.specs.Missing.{insert_once}
-use Rattle.sm_defs.specs.Retention.{is_reached, keep_reached, with_kept, keeps}
+use Rattle.sm_defs.specs.Retention.{is_reached, keep_reached, with_kept, keeps, label_of}
 use Rattle.oracle_lists.specs.Places.{place_of, is_at}
 
 -- a list's others, as a pattern takes them
 pub others_are : {X : Type 0} (xs : List X) → take (suc (length xs) - 1) xs ≡ xs
 others_are xs = let e : suc (length xs) - 1 ≡ length xs = omega arith in rw e (take-length xs)
 
-pub kept_too : (rules : List Rule) (needs : Ident → Bool) (s copy : Snapshot) (kept : List Snapshot) → copy ≡ s → keeps rules needs s kept ≡ true → with_kept rules needs s kept ≡ copy ∷ kept
+pub kept_too : (rules : List Rule) (needs : Ident → Bool) (s copy : Snapshot) (kept : List Snapshot) → copy ≡ s → keeps rules label_of needs s kept ≡ true → with_kept rules label_of needs s kept ≡ copy ∷ kept
 kept_too rules needs s copy kept e h = rw h (ap (λ x. x ∷ kept) (sym e))
 
-pub left_out : (rules : List Rule) (needs : Ident → Bool) (s : Snapshot) (kept : List Snapshot) → keeps rules needs s kept ≡ false → kept ≡ with_kept rules needs s kept
+pub left_out : (rules : List Rule) (needs : Ident → Bool) (s : Snapshot) (kept : List Snapshot) → keeps rules label_of needs s kept ≡ false → kept ≡ with_kept rules label_of needs s kept
 left_out rules needs s kept h = rw h refl
 
 pub newest_of_one : (ss : List Snapshot) → length ss < 2 → only_newest ss ≡ ss

@@ -5,7 +5,7 @@ ghost use Rattle.std.specs.List.{find};
 ghost use Rattle.std.specs.Str.{bytes_eq};
 ghost use Rattle.sm_defs.specs.Words.{has_ident};
 ghost use Rattle.sm_defs.specs.Relationship.{rule_for};
-ghost use Rattle.sm_defs.specs.Retention.{retained, with_kept, keeps, labelled, labels, keeps_by_rule, keep_reached, is_reached};
+ghost use Rattle.sm_defs.specs.Retention.{retained, with_kept, keeps, label_of, labelled, labels, keeps_by_rule, keep_reached, is_reached};
 
 use crate::lists::{is_among, same_text, with_first};
 use crate::values::PlainSnapshot;
@@ -89,7 +89,7 @@ fn stays(
     snapshot: &PlainSnapshot,
     kept: &[PlainSnapshot],
 ) -> bool
-    ensures { result ≡ keeps rules.now (has_ident needed.now) snapshot.now kept.now }
+    ensures { result ≡ keeps rules.now label_of (has_ident needed.now) snapshot.now kept.now }
 {
     is_among(needed, snapshot.ident) || has_room(rules, &snapshot.label, kept)
 }
@@ -101,7 +101,7 @@ fn settled(
     snapshot: &PlainSnapshot,
     kept: Vec<PlainSnapshot>,
 ) -> Result<Vec<PlainSnapshot>, NoMemory>
-    ensures { IfOk result (λ all. all.items ≡ with_kept rules.now (has_ident needed.now) snapshot.now kept.items) }
+    ensures { IfOk result (λ all. all.items ≡ with_kept rules.now label_of (has_ident needed.now) snapshot.now kept.items) }
 {
     if stays(rules, needed, snapshot, &kept) {
         with_first(snapshot.copy(alloc)?, kept)
@@ -118,7 +118,7 @@ pub fn retained(
     needed: &[Ident],
     snapshots: &[PlainSnapshot],
 ) -> Result<Vec<PlainSnapshot>, NoMemory>
-    ensures { IfOk result (λ kept. kept.items ≡ retained rules.now (has_ident needed.now) snapshots.now) }
+    ensures { IfOk result (λ kept. kept.items ≡ retained rules.now label_of (has_ident needed.now) snapshots.now) }
 {
     match snapshots {
         [] => Ok(Vec::new(alloc)),

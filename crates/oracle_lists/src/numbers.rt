@@ -2,7 +2,7 @@
 ghost use Rattle.std.specs.Prelude.{◌≡◌, ◌<◌, ◌≤◌, ◌+◌, ◌^◌, length, IfOk};
 ghost use Rattle.sm_defs.specs.Image.{stands};
 ghost use Rattle.sm_defs.specs.Volume.{numbers};
-ghost use Rattle.sm_model.specs.OfTransfers.{prefix_from, landed_prefix};
+ghost use Rattle.sm_defs.specs.Progress.{prefix_from, landed_prefix};
 
 use sm_base::NoMemory;
 use std::alloc::Global;

@@ -1,12 +1,12 @@
 // Which snapshots a new transfer sends.
 ghost use Rattle.std.specs.Prelude.{not};
 ghost use Rattle.std.specs.Option.{is_some};
-ghost use Rattle.sm_defs.specs.Relationship.{rule_for};
 ghost use Rattle.std.specs.Prelude.{◌≡◌, ◌<◌, ◌^◌, Some, IfOk};
 ghost use Rattle.std.specs.List.{filter};
 ghost use Rattle.sm_defs.specs.Words.{same_ident, after, up_to};
 ghost use Rattle.sm_defs.specs.Volume.{has, idents};
-ghost use Rattle.sm_defs.specs.Legs.{after_base, candidates, only_newest, has_rule, made_ident, mirror_legs, vault_legs, legs};
+ghost use Rattle.sm_defs.specs.Classes.{ruled, has_class};
+ghost use Rattle.sm_defs.specs.Legs.{after_base, candidates, only_newest, made_ident, mirror_legs, vault_legs, legs};
 
 use crate::dropping::sends_all;
 use crate::lists::{has_copy, has_rule_for, is_same, with_first};
@@ -124,7 +124,7 @@ fn newest_of(snapshots: &[PlainSnapshot]) -> &[PlainSnapshot]
 }
 
 fn has_rule(rules: &[WorldRule], label: &Option<Label>) -> bool
-    ensures { result ≡ is_some (rule_for rules.now label.now) }
+    ensures { result ≡ is_some (ruled rules.now label.now) }
 {
     match label {
         None => false,
@@ -132,18 +132,27 @@ fn has_rule(rules: &[WorldRule], label: &Option<Label>) -> bool
     }
 }
 
-fn ruled_idents(
+fn has_class(policy: &WorldPolicy, snapshot: &PlainSnapshot) -> bool
+    ensures { result ≡ has_class policy.now snapshot.now }
+{
+    match policy.kind {
+        PolicyKind::AsyncMirror => true,
+        PolicyKind::Vault => has_rule(&policy.rules, &snapshot.label),
+    }
+}
+
+fn classed_idents(
     alloc: Global,
-    rules: &[WorldRule],
+    policy: &WorldPolicy,
     snapshots: &[PlainSnapshot],
 ) -> Result<Vec<Ident>, NoMemory>
-    ensures { IfOk result (λ all. all.items ≡ idents (filter (has_rule rules.now) snapshots.now)) }
+    ensures { IfOk result (λ all. all.items ≡ idents (filter (has_class policy.now) snapshots.now)) }
 {
     match snapshots {
         [] => Ok(Vec::new(alloc)),
         [snapshot, newer @ ..] => {
-            let mut all = ruled_idents(alloc, rules, newer)?;
-            if has_rule(rules, &snapshot.label) {
+            let mut all = classed_idents(alloc, policy, newer)?;
+            if has_class(policy, snapshot) {
                 all.insert(0, snapshot.ident)?;
             }
             Ok(all)
@@ -205,7 +214,7 @@ pub fn legs(
             of_mirror(alloc, sends_all(policy), source.kind, made, &sent)
         }
         PolicyKind::Vault => Ok(PlainLegs {
-            idents: ruled_idents(alloc, &policy.rules, &sent)?,
+            idents: classed_idents(alloc, policy, &sent)?,
             reserved: false,
         }),
     }

@@ -10,6 +10,7 @@ use Rattle.sm_defs.specs.Relationship.{Relationship, is_mirror}
 use Rattle.sm_defs.specs.World.{Up, policy_at}
 use Rattle.sm_model.specs.OfTransfers as model
 use Rattle.oracle_world.specs.Finding.{number_of}
+use Rattle.sm_defs.specs.Volume as lists
 
 pub none_held : (who : Ident → Option Relationship) (ss : List Snapshot) → length ss < 1 → Ok tt ≡ model.held_downstream (model.first_held who ss)
 unfolding model.held_downstream
@@ -33,6 +34,6 @@ pub spared : (w : Up) (r : Relationship) (i : Ident) (there : List Snapshot) →
 unfolding model.held_downstream
 spared w r i there e = rw e refl
 
-pub tested : (w : Up) (r : Relationship) (i : Ident) (there ps : List Snapshot) → is_mirror (policy_at w r.policy).kind ≡ true → ps ≡ model.past i there →
+pub tested : (w : Up) (r : Relationship) (i : Ident) (there ps : List Snapshot) → is_mirror (policy_at w r.policy).kind ≡ true → ps ≡ lists.past i there →
     model.held_downstream (model.first_held (λ j. find (model.needed_otherwise w r.destination j r) w.relations) ps) ≡ model.held_downstream (model.held_after w r i there)
 tested w r i there ps e f = rw (e, f) refl

@@ -2,7 +2,7 @@
 //!
 //! Each function answers its definition, and changes the world as that says. An `Err` leaves the world
 //! unspecified.
-#![tactic(auto, unfolding(sm_model::specs::Answers::and_then, sm_model::specs::Answers::refused_if, sm_model::specs::Answers::some_or, sm_model::specs::OfVolumes::held, sm_model::specs::OfRelations::already))]
+#![tactic(auto, unfolding(sm_model::specs::Answers::and_then, sm_model::specs::Answers::refused_if, sm_model::specs::Answers::some_or, sm_model::specs::Answers::allowed, sm_defs::specs::May::refused, sm_model::specs::OfVolumes::held, sm_model::specs::OfRelations::already))]
 
 mod relations;
 mod starting;

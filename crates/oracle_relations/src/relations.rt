@@ -11,6 +11,7 @@ ghost use Rattle.sm_model.specs.OfRelations as model;
 ghost use Rattle.oracle_world.specs.Finding.{IsFound};
 ghost use Rattle.oracle_volumes.specs.Answering.{Answers};
 ghost use Rattle.oracle_relations.specs.Targets.{IsReleased};
+ghost use Rattle.sm_defs.specs.Operations as operations;
 
 use crate::targets::{has_transfer, is_bare, no_target, relation, target};
 use oracle_volumes::{
@@ -155,14 +156,14 @@ pub fn set_quiesced(
 }
 
 fn make_writable(volume: &mut PlainVolume)
-    ensures { volume.new ≡ model.writable volume.old }
+    ensures { volume.new ≡ operations.writable volume.old }
 {
     volume.kind = Kind::Rw;
 }
 
 fn make_writable_at(world: &mut PlainWorld, at: usize)
     requires { at < length world.old.volumes }
-    ensures { world.new ≡ with_volume world.old at (model.writable (volume_at world.old at)) }
+    ensures { world.new ≡ with_volume world.old at (operations.writable (volume_at world.old at)) }
 {
     make_writable(&mut world.volumes[at]);
 }

@@ -11,6 +11,9 @@ ghost use Rattle.sm_defs.specs.Common.{common};
 ghost use Rattle.sm_defs.specs.World.{volume_at, policy_at, relation_at, with_relation};
 ghost use Rattle.sm_model.specs.OfTransfers as model;
 ghost use Rattle.oracle_volumes.specs.Answering.{Answers};
+ghost use Rattle.sm_defs.specs.Progress as progress;
+ghost use Rattle.sm_defs.specs.Volume as lists;
+ghost use Rattle.sm_defs.specs.May as may;
 
 use crate::starting::{
     count_legs, has_all_transfers, new_transfer, next_legs, next_number, put, put_next,
@@ -96,7 +99,7 @@ fn has_nothing(relation: &WorldRelation) -> bool
 
 fn is_uninitialized(world: &PlainWorld, destination: usize, at: usize) -> bool
     requires { at < length world.now.relations }
-    ensures { result ≡ model.is_uninitialized (volume_at world.now destination) (relation_at world.now at) }
+    ensures { result ≡ may.is_uninitialized (volume_at world.now destination) (relation_at world.now at) }
 {
     is_bare(world, destination) || has_nothing(relation(world, at))
 }
@@ -138,7 +141,7 @@ fn settled_by(
     legs: &[Ident],
 ) -> Result<WorldRelation, NoMemory>
     requires { relation.now.transfer ≡ Some transfer.now }
-    ensures { IfOk result (λ r. r ≡ model.settled_if_there there.now relation.now transfer.now legs.now) }
+    ensures { IfOk result (λ r. r ≡ progress.settled_if_there there.now relation.now transfer.now legs.now) }
 {
     match legs {
         [first, later @ ..] if has_copy(there, *first) => {
@@ -176,7 +179,7 @@ fn settled_at(
 ) -> Result<WorldRelation, NoMemory>
     requires stands { at < length world.now.relations }
     requires its { (relation_at world.now at).transfer ≡ Some transfer.now }
-    ensures { IfOk result (λ r. r ≡ model.settled_if_there (volume_at world.now destination).snapshots (relation_at world.now at) transfer.now transfer.now.legs) }
+    ensures { IfOk result (λ r. r ≡ progress.settled_if_there (volume_at world.now destination).snapshots (relation_at world.now at) transfer.now transfer.now.legs) }
 {
     settled_by(
         alloc,
@@ -360,7 +363,7 @@ fn test_each(
 }
 
 fn past_base(world: &PlainWorld, destination: usize, base: Ident) -> &[PlainSnapshot]
-    ensures { result.now ≡ model.past base (volume_at world.now destination).snapshots }
+    ensures { result.now ≡ lists.past base (volume_at world.now destination).snapshots }
 {
     behind(snapshots_at(world, destination), base)
 }

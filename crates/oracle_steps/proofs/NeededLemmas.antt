@@ -7,7 +7,7 @@ use Rattle.sm_base.specs.declared.numbers.Ident.{Ident}
 use Rattle.sm_defs.specs.Words.{Among, same_ident, has_ident}
 use Rattle.sm_defs.specs.Volume.{Snapshot, idents}
 use Rattle.sm_defs.specs.Relationship.{Rule}
-use Rattle.sm_defs.specs.Retention.{retained}
+use Rattle.sm_defs.specs.Retention.{retained, label_of}
 
 same_is : (i j : Ident) → same_ident i j ≡ true → i ≡ j
 same_is i j e = let p = and_parts (i.origin == j.origin) (i.seq == j.seq) e in
@@ -30,9 +30,9 @@ found_in : (p : Ident → Bool) (ss : List Snapshot) (s : Snapshot) → Among ss
 found_in p ss s m = any-filter_same (λ j. same_ident j s.ident) p (p s.ident) (λ j e. ap p (same_is j s.ident e)) (idents ss) ∙ (rw (stands_there ss s m) (and_true (p s.ident)))
 
 -- what is kept rests on what is needed of the list alone
-retained_same : (rules : List Rule) (f g : Ident → Bool) (ss : List Snapshot) → ((s : Snapshot) → Among ss s → f s.ident ≡ g s.ident) → retained rules f ss ≡ retained rules g ss
+retained_same : (rules : List Rule) (f g : Ident → Bool) (ss : List Snapshot) → ((s : Snapshot) → Among ss s → f s.ident ≡ g s.ident) → retained rules label_of f ss ≡ retained rules label_of g ss
 retained_same rules f g [] h = refl
 retained_same rules f g (s ∷ ss) h = rw (retained_same rules f g ss (λ t m. h t (inr m)), h s (inl refl)) refl
 
-pub retained_by_needed : (rules : List Rule) (p : Ident → Bool) (ss : List Snapshot) → retained rules (has_ident (filter p (idents ss))) ss ≡ retained rules p ss
+pub retained_by_needed : (rules : List Rule) (p : Ident → Bool) (ss : List Snapshot) → retained rules label_of (has_ident (filter p (idents ss))) ss ≡ retained rules label_of p ss
 retained_by_needed rules p ss = retained_same rules (has_ident (filter p (idents ss))) p ss (found_in p ss)

@@ -9,10 +9,11 @@ use Rattle.sm_defs.specs.Relationship.{Relationship, Transfer, is_mirror}
 use Rattle.sm_defs.specs.World.{Up, with_volume, with_relation}
 use Rattle.sm_model.specs.OfTransfers.{first_held}
 use Rattle.sm_model.specs.Running.{Running}
-use Rattle.sm_model.specs.Steps.{Effect, family_of_transfer}
+use Rattle.sm_model.specs.Steps.{Effect}
 use Rattle.sm_model.specs.Due.{held_reason, reason_if, has_other_family}
 use Rattle.oracle_steps.specs.declared.change.PlainPlaced.{PlainPlaced}
 use Rattle.oracle_steps.specs.declared.change.PlainChange.{PlainChange}
+use Rattle.sm_defs.specs.Made.{family_of_transfer}
 
 abbrev pub changed_volume : Up → Option PlainPlaced → Up
 changed_volume w None = w

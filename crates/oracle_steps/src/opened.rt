@@ -1,6 +1,7 @@
 // The world after a restart.
 ghost use Rattle.std.specs.Prelude.{◌≡◌, map, IfOk, OnOk, OnErr};
-ghost use Rattle.sm_model.specs.Opened.{reopened, restarted, rejoined, opened};
+ghost use Rattle.sm_model.specs.Opened.{restarted, rejoined, opened};
+ghost use Rattle.sm_defs.specs.Operations as operations;
 
 use crate::progress::interrupted;
 use oracle_lists::{copy_image, copy_snapshots};
@@ -22,7 +23,7 @@ fn restarted(
 }
 
 fn reopened(alloc: Global, volume: &PlainVolume) -> Result<PlainVolume, NoMemory>
-    ensures { IfOk result (λ next. next ≡ reopened volume.now) }
+    ensures { IfOk result (λ next. next ≡ operations.opened volume.now) }
 {
     let active = copy_image(alloc, &volume.stable)?;
     let stable = copy_image(alloc, &volume.stable)?;
@@ -31,7 +32,7 @@ fn reopened(alloc: Global, volume: &PlainVolume) -> Result<PlainVolume, NoMemory
 }
 
 fn all_reopened(alloc: Global, volumes: &[PlainVolume]) -> Result<Vec<PlainVolume>, NoMemory>
-    ensures { IfOk result (λ all. all.items ≡ map reopened volumes.now) }
+    ensures { IfOk result (λ all. all.items ≡ map operations.opened volumes.now) }
 {
     match volumes {
         [] => Ok(Vec::new(alloc)),

@@ -1,14 +1,17 @@
 // The steps that bring a snapshot to a volume, and the one that tidies.
-ghost use Rattle.std.specs.Prelude.{◌≡◌, ◌<◌, ◌+◌, ◌^◌, not, ℕ, length, string_bytes, IfOk};
+ghost use Rattle.std.specs.Prelude.{◌≡◌, ◌<◌, ◌+◌, ◌^◌, not, false, ℕ, length, string_bytes, IfOk};
 ghost use Rattle.std.specs.List.{filter, list_any};
 ghost use Rattle.sm_defs.specs.Volume.{idents};
 ghost use Rattle.sm_defs.specs.Needed.{needed};
-ghost use Rattle.sm_defs.specs.Retention.{retained};
+ghost use Rattle.sm_defs.specs.Relationship.{is_mirror};
+ghost use Rattle.sm_defs.specs.Classes.{class_of};
+ghost use Rattle.sm_defs.specs.Retention.{retained, label_of};
 ghost use Rattle.sm_defs.specs.Operations.{with_snapshot};
-ghost use Rattle.sm_model.specs.Steps.{made_name, prepared_snapshot, is_elsewhere, family_published, arrived, list_published, published};
+ghost use Rattle.sm_model.specs.Steps.{prepared_snapshot, is_elsewhere, family_published, arrived, list_published, published};
 ghost use Rattle.sm_model.specs.Due.{prepare_reason, prepare_effect, publish_effect, is_tidied, tidy_due, tidy_effect};
 ghost use Rattle.oracle_steps.specs.Changes.{IsChange, reason_of_count};
 ghost use Rattle.oracle_steps.specs.Seen.{running_of};
+ghost use Rattle.sm_defs.specs.Made.{made_name};
 
 use crate::change::{PlainChange, PlainPlaced};
 use crate::progress::interrupt;
@@ -18,7 +21,7 @@ use crate::values::PlainRunning;
 use oracle_lists::{PlainSnapshot, copy_image, copy_snapshots, has_copy, retained, with_first};
 use oracle_world::{PlainFault, PlainVolume, PlainWorld, is_needed, is_rw};
 use sm_base::{Ident, NameFault, NoMemory, PolicyKind, Reason, SnapName, VolNo};
-use sm_model::{Reply, WorldRule, copy_label};
+use sm_model::{Reply, WorldPolicy, WorldRule, copy_label};
 use std::alloc::Global;
 
 fn made_text(alloc: Global, relation: u32, transfer: u64) -> Result<String, NoMemory>
@@ -205,17 +208,32 @@ fn needed_among(
 
 /// What a vault's rules keep of a volume's list.
 #[tactic(auto, using(crate::proofs::NeededLemmas::retained_by_needed))]
-fn kept(
+fn kept_by_labels(
     alloc: Global,
     world: &PlainWorld,
     volume: u32,
     rules: &[WorldRule],
     snapshots: &[PlainSnapshot],
 ) -> Result<Vec<PlainSnapshot>, NoMemory>
-    ensures { IfOk result (λ all. all.items ≡ retained rules.now (needed world.now volume) snapshots.now) }
+    ensures { IfOk result (λ all. all.items ≡ retained rules.now label_of (needed world.now volume) snapshots.now) }
 {
     let needed = needed_among(alloc, world, volume, snapshots)?;
     retained(alloc, rules, &needed, snapshots)
+}
+
+/// What a vault keeps of a volume's list.
+#[tactic(auto, using(sm_defs::proofs::Classes::vault_keeps))]
+fn kept(
+    alloc: Global,
+    world: &PlainWorld,
+    volume: u32,
+    policy: &WorldPolicy,
+    snapshots: &[PlainSnapshot],
+) -> Result<Vec<PlainSnapshot>, NoMemory>
+    requires { is_mirror policy.now.kind ≡ false }
+    ensures { IfOk result (λ all. all.items ≡ retained policy.now.rules (class_of policy.now) (needed world.now volume) snapshots.now) }
+{
+    kept_by_labels(alloc, world, volume, &policy.rules, snapshots)
 }
 
 fn list_published(
@@ -235,7 +253,7 @@ fn list_published(
         PolicyKind::AsyncMirror => Ok(all),
         PolicyKind::Vault => {
             let volume = relation.destination.0;
-            kept(alloc, world, volume, &policy.rules, &all)
+            kept(alloc, world, volume, policy, &all)
         }
     }
 }

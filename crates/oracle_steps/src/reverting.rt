@@ -4,10 +4,11 @@ ghost use Rattle.std.specs.List.{filter};
 ghost use Rattle.sm_defs.specs.Volume.{without};
 ghost use Rattle.sm_defs.specs.Needed.{holder};
 ghost use Rattle.sm_model.specs.OfTransfers.{as_reverted};
-ghost use Rattle.sm_model.specs.Steps.{reverted, family_of_transfer};
+ghost use Rattle.sm_model.specs.Steps.{reverted};
 ghost use Rattle.sm_model.specs.Due.{goes, has_other_family, revert_reason, revert_effect, prune_reason, prune_effect};
 ghost use Rattle.oracle_steps.specs.Changes.{IsChange, reason_of_held, family_reverted};
 ghost use Rattle.oracle_steps.specs.Seen.{running_of};
+ghost use Rattle.sm_defs.specs.Made.{family_of_transfer};
 
 use crate::change::{PlainChange, PlainPlaced};
 use crate::progress::interrupt;

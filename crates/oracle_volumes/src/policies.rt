@@ -9,6 +9,7 @@ ghost use Rattle.sm_defs.specs.World.{policy_at, no_policy};
 ghost use Rattle.sm_model.specs.OfPolicies as model;
 ghost use Rattle.oracle_world.specs.Finding.{IsFound};
 ghost use Rattle.oracle_volumes.specs.Answering.{Answers};
+ghost use Rattle.sm_defs.specs.Rules.{first_rules, is_mirror_label, is_wrong_rule, is_bad_keep, with_rule};
 
 use oracle_lists::{has_rule_for, same_text};
 use oracle_world::{PlainFault, PlainWorld, policy_named};
@@ -45,7 +46,7 @@ fn label(alloc: Global, text: &[u8]) -> Result<Label, PlainFault>
 }
 
 fn first_rules(alloc: Global, kind: PolicyKind) -> Result<Vec<WorldRule>, PlainFault>
-    ensures { IfOk result (λ rules. rules.items ≡ model.first_rules kind) }
+    ensures { IfOk result (λ rules. rules.items ≡ first_rules kind) }
 {
     let mut rules = Vec::new(alloc);
     match kind {
@@ -119,14 +120,14 @@ pub fn policy(world: &PlainWorld, at: usize) -> &WorldPolicy
 }
 
 fn is_mirror_label(label: &Label) -> bool
-    ensures { result ≡ model.is_mirror_label label.now }
+    ensures { result ≡ is_mirror_label label.now }
 {
     let text = label.text();
     same_text(text, b"sm_created") || same_text(text, b"all_source_snapshots")
 }
 
 fn is_wrong_rule(kind: PolicyKind, label: &Label, preserve: bool) -> bool
-    ensures { result ≡ model.is_wrong_rule kind label.now preserve }
+    ensures { result ≡ is_wrong_rule kind label.now preserve }
 {
     match kind {
         PolicyKind::AsyncMirror => !is_mirror_label(label) || preserve,
@@ -135,7 +136,7 @@ fn is_wrong_rule(kind: PolicyKind, label: &Label, preserve: bool) -> bool
 }
 
 fn is_bad_keep(kind: PolicyKind, keep: u32) -> bool
-    ensures { result ≡ model.is_bad_keep kind keep }
+    ensures { result ≡ is_bad_keep kind keep }
 {
     match kind {
         PolicyKind::AsyncMirror => keep != 1,
@@ -145,14 +146,14 @@ fn is_bad_keep(kind: PolicyKind, keep: u32) -> bool
 
 fn is_wrong(world: &PlainWorld, at: usize, label: &Label, preserve: bool) -> bool
     requires { at < length world.now.policies }
-    ensures { result ≡ model.is_wrong_rule (policy_at world.now at).kind label.now preserve }
+    ensures { result ≡ is_wrong_rule (policy_at world.now at).kind label.now preserve }
 {
     is_wrong_rule(policy(world, at).kind, label, preserve)
 }
 
 fn is_bad(world: &PlainWorld, at: usize, keep: u32) -> bool
     requires { at < length world.now.policies }
-    ensures { result ≡ model.is_bad_keep (policy_at world.now at).kind keep }
+    ensures { result ≡ is_bad_keep (policy_at world.now at).kind keep }
 {
     is_bad_keep(policy(world, at).kind, keep)
 }
@@ -172,7 +173,7 @@ fn count_rules(world: &PlainWorld, at: usize) -> usize
 }
 
 fn push_rule(policy: &mut WorldPolicy, rule: WorldRule) -> Result<(), NoMemory>
-    ensures { OnOk result (policy.new ≡ model.with_rule policy.old rule) }
+    ensures { OnOk result (policy.new ≡ with_rule policy.old rule) }
 {
     policy.rules.push(rule)?;
     Ok(())
@@ -180,7 +181,7 @@ fn push_rule(policy: &mut WorldPolicy, rule: WorldRule) -> Result<(), NoMemory>
 
 fn push_rule_at(world: &mut PlainWorld, at: usize, rule: WorldRule) -> Result<(), NoMemory>
     requires { at < length world.old.policies }
-    ensures { OnOk result (world.new ≡ model.with_policy world.old at (model.with_rule (policy_at world.old at) rule)) }
+    ensures { OnOk result (world.new ≡ model.with_policy world.old at (with_rule (policy_at world.old at) rule)) }
 {
     push_rule(&mut world.policies[at], rule)
 }

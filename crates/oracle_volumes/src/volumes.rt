@@ -10,6 +10,7 @@ ghost use Rattle.sm_defs.specs.Needed.{holder};
 ghost use Rattle.sm_model.specs.OfVolumes as model;
 ghost use Rattle.sm_defs.specs.Operations as operations;
 ghost use Rattle.oracle_volumes.specs.Answering.{Answers};
+ghost use Rattle.sm_defs.specs.Volume.{length_needed};
 
 use crate::pieces::{
     full_block, is_writable, new_image, place_of, refuse_name, refuse_path, volume,
@@ -59,7 +60,7 @@ fn count_volumes(world: &PlainWorld) -> usize
 }
 
 fn length_needed(physical: u32) -> u64
-    ensures { result ≡ model.length_needed physical }
+    ensures { result ≡ length_needed physical }
 {
     25_726_976 + 4_096 * u64::from(physical)
 }
@@ -410,7 +411,7 @@ pub fn unsnap(
 }
 
 fn make_point(alloc: Global, volume: &mut PlainVolume) -> Result<(), NoMemory>
-    ensures { OnOk result (volume.new ≡ model.at_point volume.old) }
+    ensures { OnOk result (volume.new ≡ operations.settled volume.old) }
 {
     volume.stable = copy_image(alloc, &volume.active)?;
     Ok(())
@@ -418,7 +419,7 @@ fn make_point(alloc: Global, volume: &mut PlainVolume) -> Result<(), NoMemory>
 
 fn make_point_at(alloc: Global, world: &mut PlainWorld, at: usize) -> Result<(), NoMemory>
     requires { at < length world.old.volumes }
-    ensures { OnOk result (world.new ≡ with_volume world.old at (model.at_point (volume_at world.old at))) }
+    ensures { OnOk result (world.new ≡ with_volume world.old at (operations.settled (volume_at world.old at))) }
 {
     make_point(alloc, &mut world.volumes[at])
 }

@@ -1,12 +1,12 @@
 -- Which snapshots a new transfer sends.
-use Rattle.std.specs.Prelude.{ℕ, ◌+◌, ◌*◌, ◌++◌, cond, not, Bool, true, false, List, [], ◌∷◌, Option, Some, None, is_some}
+use Rattle.std.specs.Prelude.{ℕ, ◌+◌, ◌*◌, ◌++◌, cond, not, Bool, true, false, List, [], ◌∷◌, Option, Some, None}
 use Rattle.std.specs.List.{filter}
 use Rattle.sm_base.specs.declared.numbers.Ident.{Ident}
 use Rattle.sm_base.specs.declared.numbers.Kind.{Kind}
 use Rattle.sm_base.specs.declared.numbers.Kind.TheVariants.{Rw, Dp}
-use Rattle.sm_defs.specs.Words.{same_ident, after}
-use Rattle.sm_defs.specs.Volume.{Snapshot, idents, has}
-use Rattle.sm_defs.specs.Relationship.{Policy, Rule, is_mirror, sends_all, rule_for}
+use Rattle.sm_defs.specs.Volume.{Snapshot, idents, has, past}
+use Rattle.sm_defs.specs.Relationship.{Policy, is_mirror, sends_all}
+use Rattle.sm_defs.specs.Classes.{has_class}
 
 -- oldest first; where reserved, the last is still to be made
 pub record Legs : Type 0 where
@@ -22,7 +22,7 @@ pub record Source : Type 0 where
 -- nothing stands after a base that the list lacks
 abbrev pub after_base : Option Ident → List Snapshot → List Snapshot
 after_base None ss = ss
-after_base (Some base) ss = after (λ s. same_ident s.ident base) ss
+after_base (Some base) ss = past base ss
 
 -- the source's snapshots after the base that the destination does not have
 abbrev pub candidates : Option Ident → List Snapshot → List Snapshot → List Snapshot
@@ -45,14 +45,12 @@ mirror_legs false Rw made sent = record { idents = made ∷ []; reserved = true 
 mirror_legs true Dp made sent = record { idents = idents sent; reserved = false }
 mirror_legs false Dp made sent = record { idents = idents (only_newest sent); reserved = false }
 
-abbrev pub has_rule : List Rule → Snapshot → Bool
-has_rule rules s = is_some (rule_for rules s.label)
-
-abbrev pub vault_legs : List Rule → List Snapshot → Legs
-vault_legs rules sent = record { idents = idents (filter (has_rule rules) sent); reserved = false }
+-- what has a class
+abbrev pub vault_legs : Policy → List Snapshot → Legs
+vault_legs policy sent = record { idents = idents (filter (has_class policy) sent); reserved = false }
 
 -- what the transfer of the number sends
 abbrev pub legs : ℕ → Policy → Option Ident → Source → List Snapshot → Legs
 legs transfer policy base source destination =
     cond (is_mirror policy.kind) (mirror_legs (sends_all policy) source.kind (made_ident source.number transfer) (candidates base source.snapshots destination))
-    (vault_legs policy.rules (candidates base source.snapshots destination))
+    (vault_legs policy (candidates base source.snapshots destination))

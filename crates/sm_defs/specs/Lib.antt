@@ -3,12 +3,17 @@ pub mod Image
 pub mod Volume
 pub mod Operations
 pub mod Relationship
+pub mod Rules
+pub mod Classes
 pub mod World
 pub mod Edges
 pub mod Needed
+pub mod May
 pub mod Thinned
 pub mod Missing
 pub mod Legs
+pub mod Made
+pub mod Progress
 pub mod Retention
 pub mod Pruning
 pub mod Common

@@ -1,10 +1,11 @@
 -- Volumes and snapshots.
-use Rattle.std.specs.Prelude.{ℕ, zero, suc, ◌-◌, not, Bool, true, false, List, [], ◌∷◌, map, replicate, Option}
+use Rattle.std.specs.Prelude.{ℕ, zero, suc, ◌+◌, ◌-◌, ◌*◌, not, Bool, true, false, List, [], ◌∷◌, map, replicate, Option}
 use Rattle.std.specs.List.{list_any, filter, flat_map}
 use Rattle.sm_base.specs.declared.numbers.Ident.{Ident}
 use Rattle.sm_base.specs.declared.numbers.Kind.{Kind}
 use Rattle.sm_base.specs.declared.numbers.Kind.TheVariants.{Rw, Dp}
-use Rattle.sm_defs.specs.Words.{same_ident}
+use Rattle.sm_base.specs.declared.limits.TheConstants.{BLOCKS_START}
+use Rattle.sm_defs.specs.Words.{same_ident, after, up_to}
 use Rattle.sm_defs.specs.Image.{Image, hole, tags, distinct, stands}
 
 -- what was on a volume when it was taken; the time is in seconds since 1970, the maker a relationship's number, 0 for a client
@@ -66,6 +67,18 @@ idents ss = map ident_of ss
 
 abbrev pub has : List Snapshot → Ident → Bool
 has ss i = list_any (λ s. same_ident s.ident i) ss
+
+-- the snapshots after the one of the identity
+abbrev pub past : Ident → List Snapshot → List Snapshot
+past i ss = after (λ s. same_ident s.ident i) ss
+
+-- the snapshots up to the one of the identity, that one too
+abbrev pub until : Ident → List Snapshot → List Snapshot
+until i ss = up_to (λ s. same_ident s.ident i) ss
+
+-- how long a disk has to be for so many physical blocks, in bytes
+abbrev pub length_needed : ℕ → ℕ
+length_needed physical = BLOCKS_START + 4096 * physical
 
 abbrev pub new_volume : List ℕ → ℕ → Kind → ℕ → ℕ → ℕ → Volume
 new_volume path disk kind number logical physical = record {

@@ -1,5 +1,5 @@
 -- Words on lists that the definitions share.
-use Rattle.std.specs.Prelude.{◌≡◌, ℕ, suc, Bool, true, false, cond, ◌==◌, ◌&&◌, ◌⊎◌, List, [], ◌∷◌, Option, Some, None}
+use Rattle.std.specs.Prelude.{◌≡◌, ℕ, suc, ◌<◌, Bool, true, false, cond, ◌==◌, ◌&&◌, ◌⊎◌, List, [], ◌∷◌, Option, Some, None}
 use Rattle.std.specs.List.{list_any, AllByRecursion}
 use Rattle.sm_base.specs.declared.numbers.Ident.{Ident}
 
@@ -12,6 +12,11 @@ Among (y ∷ ys) x = (x ≡ y) ⊎ Among ys x
 abbrev pub KeysDiffer : {X K : Type 0} → (X → K) → List X → Type 0
 KeysDiffer key [] = Unit {0}
 KeysDiffer key (x ∷ xs) = AllByRecursion (λ y. ¬ (key y ≡ key x)) xs × KeysDiffer key xs
+
+-- each number is below all behind it
+abbrev pub Ascends : List ℕ → Type 0
+Ascends [] = Unit {0}
+Ascends (n ∷ ns) = AllByRecursion (λ m. n < m) ns × Ascends ns
 
 -- an element and its place
 pub record Found (X : Type 0) : Type 0 where

@@ -222,7 +222,7 @@ create_steps : (w : Up) (path : List ℕ) (disk : DiskNo) (kind : Kind) (logical
     and_then (create_test w path disk physical) (λ _. Ok (record { reply = told (replies.Created (volno (length w.volumes))); world = volumes.with_new_volume w (model.new_volume path disk.0 kind (length w.volumes) logical physical) }))
 create_steps w path disk kind logical physical =
     create_by (list_any (λ (v : model.Volume). bytes_eq v.path path) w.volumes) (disk.0 == 0) (list_any (λ (v : model.Volume). v.disk == disk.0) w.volumes) (length w.volumes == MOST_VOLUMES) true
-    (slice_get w.disks disk.0) (λ len. nat_lt len (volumes.length_needed physical)) disk (volumes.length_needed physical)
+    (slice_get w.disks disk.0) (λ len. nat_lt len (model.length_needed physical)) disk (model.length_needed physical)
     (Ok (record { reply = told (replies.Created (volno (length w.volumes))); world = volumes.with_new_volume w (model.new_volume path disk.0 kind (length w.volumes) logical physical) }))
 
 pub create_refused : (w : Up) (path : List ℕ) (disk : DiskNo) (kind : Kind) (logical physical : ℕ) (r : Refusal) → Err r ≡ create_test w path disk physical →

@@ -14,9 +14,10 @@ use Rattle.sm_defs.specs.World.{Up, empty_world}
 use Rattle.sm_defs.specs.Image.{Image, full_block}
 use Rattle.sm_model.specs.Answers.{Answer, Tells, bytes, ◌>>=◌, ◌>>◌, ◌when◌, some_or}
 use Rattle.sm_defs.specs.Operations.{first_of}
-use Rattle.sm_model.specs.OfVolumes.{length_needed, block_at, image_named, client_ident, snapped}
+use Rattle.sm_model.specs.OfVolumes.{block_at, image_named, client_ident, snapped}
 use Rattle.sm_lab.specs.Slots.{block_of, snapshot_of}
 use Rattle.sm_lab.specs.declared.volume.Volume.{Volume}
+use Rattle.sm_defs.specs.Volume.{length_needed}
 
 abbrev pub volume_of : Volume → model.Volume
 volume_of v = record {

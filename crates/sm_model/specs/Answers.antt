@@ -52,6 +52,11 @@ infix 3 ◌when◌
 abbrev pub ◌when◌ : Refusal → Bool → Result (Unit {0}) Refusal
 r when b = refused_if b r
 
+-- the first refusal of a command's tests, if there is one
+unfoldable pub allowed : Option Refusal → Result (Unit {0}) Refusal
+allowed None = Ok tt
+allowed (Some r) = Err r
+
 unfoldable pub some_or : {A : Type 0} → Refusal → Option A → Result A Refusal
 some_or r None = Err r
 some_or r (Some x) = Ok x

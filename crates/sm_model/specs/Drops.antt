@@ -6,12 +6,11 @@ use Rattle.sm_model.specs.declared.event.Event.TheVariants as events
 use Rattle.sm_model.specs.declared.reply.Reply.{Reply}
 use Rattle.sm_model.specs.declared.reply.Reply.TheVariants as replies
 use Rattle.sm_defs.specs.Words.{Found}
-use Rattle.sm_defs.specs.Volume.{Volume, Snapshot, has}
+use Rattle.sm_defs.specs.Volume.{Volume, Snapshot, has, past}
 use Rattle.sm_defs.specs.Relationship.{is_mirror}
 use Rattle.sm_defs.specs.World.{Up, volume_at}
 use Rattle.sm_model.specs.Answers.{volume_named}
 use Rattle.sm_model.specs.OfVolumes.{snapshot_named}
-use Rattle.sm_model.specs.OfTransfers.{past}
 use Rattle.sm_model.specs.Running.{Running, IsRunning}
 use Rattle.sm_model.specs.Steps.{list_published, snapshot_of, arrived}
 use Rattle.sm_model.specs.Due.{is_tidied, goes}

@@ -6,8 +6,9 @@ use Rattle.sm_base.specs.declared.refusal.Reason.{Reason}
 use Rattle.sm_base.specs.declared.refusal.Reason.TheVariants as reasons
 use Rattle.sm_model.specs.declared.reply.Reply.TheVariants as replies
 use Rattle.sm_base.specs.declared.limits.TheConstants.{MOST_SNAPSHOTS}
-use Rattle.sm_defs.specs.Volume.{Snapshot, is_rw, has, without, free}
+use Rattle.sm_defs.specs.Volume.{Snapshot, is_rw, has, past, without, free}
 use Rattle.sm_defs.specs.Relationship.{Relationship, is_mirror, is_resync}
+use Rattle.sm_defs.specs.Progress.{landed_prefix, settled}
 use Rattle.sm_defs.specs.Legs.{made_ident}
 use Rattle.sm_defs.specs.Pruning.{is_pruned, is_made}
 use Rattle.sm_defs.specs.World.{Up, volume_at, with_volume, with_relation}
@@ -15,7 +16,7 @@ use Rattle.sm_defs.specs.Needed.{needed, holder}
 use Rattle.sm_defs.specs.Edges.{is_empty}
 use Rattle.sm_model.specs.Answers.{relno, volno}
 use Rattle.sm_defs.specs.Operations.{with_snapshot}
-use Rattle.sm_model.specs.OfTransfers.{without_transfer, settled, past, landed_prefix, Holding, first_held}
+use Rattle.sm_model.specs.OfTransfers.{without_transfer, Holding, first_held}
 use Rattle.sm_model.specs.Running.{Running, IsRunning}
 use Rattle.sm_model.specs.Steps.{Effect, number_of, with_destination, with_progress, interrupts, reverted, prepared_snapshot, snapshot_of, cost, arrived, published, list_published, may_ship, all_landed, at_checkpoint}
 

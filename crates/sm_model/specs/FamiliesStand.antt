@@ -4,10 +4,10 @@ use Rattle.sm_base.specs.declared.numbers.Ident.{Ident}
 use Rattle.sm_base.specs.declared.numbers.Kind.TheVariants.{Dp}
 use Rattle.sm_defs.specs.Words.{Among}
 use Rattle.sm_defs.specs.Volume.{Volume, has}
+use Rattle.sm_defs.specs.Made.{family_of_transfer}
 use Rattle.sm_defs.specs.Relationship.{Relationship, Transfer, is_mirror}
 use Rattle.sm_defs.specs.World.{Up, volume_at, policy_at}
 use Rattle.sm_model.specs.Standing.{EachVolume, EachTransfer}
-use Rattle.sm_model.specs.Steps.{family_of_transfer}
 
 -- a volume's or a transfer's
 abbrev pub IsFamily : Up → ℕ → Type 0

@@ -9,10 +9,10 @@ use Rattle.sm_defs.specs.Words.{Among, KeysDiffer}
 use Rattle.sm_defs.specs.Image.{Block, Image, hole}
 use Rattle.sm_defs.specs.Volume.{Volume, Snapshot, images_of, numbers}
 use Rattle.sm_defs.specs.Relationship.{Rule, Policy, Relationship, Transfer, rule_for}
+use Rattle.sm_defs.specs.Rules.{first_rules, is_wrong_rule, is_bad_keep}
 use Rattle.sm_defs.specs.Legs.{made_ident}
 use Rattle.sm_defs.specs.World.{Up}
 use Rattle.sm_model.specs.InRange.{IsLabel}
-use Rattle.sm_model.specs.OfPolicies.{first_rules, is_wrong_rule, is_bad_keep}
 use Rattle.sm_model.specs.OfRelations.{has_a_half}
 use Rattle.sm_model.specs.Standing.{Stored, EachVolume, EachRelation}
 

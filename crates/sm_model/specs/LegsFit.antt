@@ -1,8 +1,7 @@
 -- What has been shipped of a transfer's legs still fits.
 use Rattle.std.specs.Prelude.{◌≡◌, ◌≢◌, ℕ, ◌≤◌, ◌<◌, ◌+◌, ◌⊎◌, true, false, List, [], ◌∷◌, Some, None, slice_get}
-use Rattle.std.specs.List.{AllByRecursion}
 use Rattle.sm_base.specs.declared.numbers.Ident.{Ident}
-use Rattle.sm_defs.specs.Words.{Among}
+use Rattle.sm_defs.specs.Words.{Among, Ascends}
 use Rattle.sm_defs.specs.Image.{Block}
 use Rattle.sm_base.specs.declared.limits.TheConstants.{WINDOW}
 use Rattle.sm_defs.specs.Volume.{Snapshot, has, free}
@@ -40,10 +39,6 @@ FirstFits x [] = Unit {0}
 FirstFits x (i ∷ is) = has x.destination.snapshots i ≡ false → IsUnderWay x.transfer → FirstLegFits x i
 
 -- what landed ascends, with all that is below the checkpoint and nothing too far past it
-abbrev pub Ascends : List ℕ → Type 0
-Ascends [] = Unit {0}
-Ascends (k ∷ ks) = AllByRecursion (λ l. k < l) ks × Ascends ks
-
 pub record InWindow (t : Transfer) : Type 0 where
   pub ascends : Ascends t.landed
   pub below : (k : ℕ) → k < t.checkpoint → Among t.landed k

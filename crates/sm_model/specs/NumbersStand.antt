@@ -4,10 +4,10 @@ use Rattle.sm_defs.specs.Words.{Among}
 use Rattle.sm_defs.specs.Volume.{Volume, Snapshot, has}
 use Rattle.sm_defs.specs.Relationship.{Relationship, Transfer}
 use Rattle.sm_defs.specs.Legs.{made_ident}
+use Rattle.sm_defs.specs.Made.{made_name}
 use Rattle.sm_defs.specs.World.{Up, volume_at}
 use Rattle.sm_model.specs.InRange.{is_made_name}
 use Rattle.sm_model.specs.Standing.{Stands}
-use Rattle.sm_model.specs.Steps.{made_name}
 
 -- the c-th snapshot of a client on its origin
 pub record IsClients (w : Up) (s : Snapshot) (c : ℕ) : Type 0 where

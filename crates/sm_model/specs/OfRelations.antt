@@ -1,5 +1,5 @@
 -- What events on relationships are answered, but for those that start or stop a transfer.
-use Rattle.std.specs.Prelude.{ℕ, suc, ◌==◌, ◌&&◌, ◌||◌, not, Bool, true, false, List, [], ◌∷◌, ◌++◌, length, slice_set, Option, Some, None, is_some, Result, Ok, Err}
+use Rattle.std.specs.Prelude.{ℕ, suc, ◌==◌, ◌&&◌, ◌||◌, not, Bool, true, false, List, [], ◌∷◌, ◌++◌, length, slice_set, Option, Some, None, Result, Ok, Err}
 use Rattle.std.specs.List.{filter}
 use Rattle.sm_base.specs.declared.refusal.What.TheVariants.{Relations}
 use Rattle.sm_base.specs.declared.refusal.Refusal.{Refusal}
@@ -7,12 +7,13 @@ use Rattle.sm_base.specs.declared.refusal.Refusal.TheVariants as refusals
 use Rattle.sm_model.specs.declared.reply.Reply.TheVariants as replies
 use Rattle.sm_base.specs.declared.limits.TheConstants.{MOST_RELATIONS, LAST_RELATION}
 use Rattle.sm_defs.specs.Words.{Found, found, or_else}
-use Rattle.sm_defs.specs.Volume.{Volume, is_rw}
-use Rattle.sm_defs.specs.Operations as operations
+use Rattle.sm_defs.specs.Volume.{Volume}
+use Rattle.sm_defs.specs.Operations.{writable}
+use Rattle.sm_defs.specs.May.{may_break, may_delete, may_release}
 use Rattle.sm_defs.specs.Relationship.{Policy, Relationship, is_mirror}
 use Rattle.sm_defs.specs.World.{Up, with_volume, with_relation}
-use Rattle.sm_defs.specs.Edges.{edges, upstream, is_empty, Edge}
-use Rattle.sm_model.specs.Answers.{Answer, ◌>>=◌, ◌>>◌, ◌when◌, ◌and◌, some_or, volume_named, policy_named, target_named, goes_to, relno}
+use Rattle.sm_defs.specs.Edges.{edges, upstream, Edge}
+use Rattle.sm_model.specs.Answers.{Answer, ◌>>=◌, ◌>>◌, ◌when◌, ◌and◌, allowed, some_or, volume_named, policy_named, target_named, goes_to, relno}
 
 -- the volume is a destination already
 unfoldable pub already : Option (Found Relationship) → Result (Unit {0}) Refusal
@@ -66,16 +67,10 @@ set_quiesced w destination flag = do
   t ← target_named w destination
   replies.Done and with_relation w t.relation.at (quiesced_as flag t.relation.item)
 
--- clients may write it
-abbrev pub writable : Volume → Volume
-writable v = operations.writable v
-
 abbrev pub break_off : Up → List ℕ → Answer
 break_off w destination = do
   t ← target_named w destination
-  refusals.Writable when is_rw t.destination.item.kind
-  refusals.Uninitialized when is_empty t.destination.item.snapshots
-  refusals.Transferring when is_some t.relation.item.transfer
+  allowed (may_break refusals.Writable refusals.Uninitialized refusals.Transferring t.destination.item t.relation.item)
   replies.Done and with_volume w t.destination.at (writable t.destination.item)
 
 abbrev pub has_a_half : Relationship → Bool
@@ -94,7 +89,7 @@ without_source r = record r { source_half = false }
 abbrev pub delete : Up → List ℕ → Answer
 delete w destination = do
   t ← target_named w destination
-  refusals.Transferring when is_some t.relation.item.transfer
+  allowed (may_delete refusals.Transferring t.relation.item)
   replies.Done and with_halves w t.relation.at (without_destination t.relation.item)
 
 -- of these two volumes, with its source half
@@ -110,6 +105,5 @@ release w source destination = do
   s ← volume_named w source
   d ← volume_named w destination
   r ← some_or (refusals.NoRelation destination) (released w.relations s.at d.at)
-  refusals.Active when r.item.destination_half && not (is_rw d.item.kind)
-  refusals.Transferring when is_some r.item.transfer
+  allowed (may_release refusals.Active refusals.Transferring d.item r.item)
   replies.Done and with_halves w r.at (without_source r.item)

@@ -1,5 +1,5 @@
 -- What events that start, resume or stop a transfer are answered.
-use Rattle.std.specs.Prelude.{ℕ, zero, suc, ◌==◌, ◌&&◌, ◌||◌, not, Bool, true, false, cond, List, [], ◌∷◌, length, slice_set, Option, Some, None, is_some, is_none, Result, Ok, Err}
+use Rattle.std.specs.Prelude.{ℕ, suc, ◌==◌, ◌||◌, not, Bool, true, false, cond, List, [], ◌∷◌, length, slice_set, Option, Some, None, Result, Ok, Err}
 use Rattle.std.specs.List.{find, filter}
 use Rattle.sm_base.specs.declared.numbers.Ident.{Ident}
 use Rattle.sm_base.specs.declared.numbers.TransferKind.{TransferKind}
@@ -10,17 +10,18 @@ use Rattle.sm_base.specs.declared.refusal.Refusal.{Refusal}
 use Rattle.sm_base.specs.declared.refusal.Refusal.TheVariants as refusals
 use Rattle.sm_model.specs.declared.reply.Reply.TheVariants as replies
 use Rattle.sm_base.specs.declared.limits.TheConstants.{LAST_NUMBER}
-use Rattle.sm_defs.specs.Words.{same_ident, has_ident, after, up_to, or_else}
-use Rattle.sm_defs.specs.Image.{stands}
-use Rattle.sm_defs.specs.Volume.{Volume, Snapshot, is_rw, has, numbers}
+use Rattle.sm_defs.specs.Words.{has_ident, or_else}
+use Rattle.sm_defs.specs.Volume.{Snapshot, past, until, numbers}
 use Rattle.sm_defs.specs.Relationship.{Policy, Rule, Relationship, Transfer, is_mirror}
+use Rattle.sm_defs.specs.Progress.{landed_prefix, settled_if_there}
+use Rattle.sm_defs.specs.May.{may_initialize, may_update, may_abort, may_resync, layouts_differ}
 use Rattle.sm_defs.specs.Retention.{labels, keep_reached}
 use Rattle.sm_defs.specs.Common.{common}
 use Rattle.sm_defs.specs.Legs.{Legs, Source, legs}
 use Rattle.sm_defs.specs.World.{Up, volume_at, policy_at, with_relation}
 use Rattle.sm_defs.specs.Needed.{needed_for, needed_at_source}
-use Rattle.sm_defs.specs.Edges.{edges, upstream, is_empty, runs, Edge}
-use Rattle.sm_model.specs.Answers.{Answer, ◌>>=◌, ◌>>◌, ◌when◌, ◌and◌, whether◌then◌otherwise◌, some_or, target_named, relno}
+use Rattle.sm_defs.specs.Edges.{edges, upstream, is_empty, Edge}
+use Rattle.sm_model.specs.Answers.{Answer, ◌>>=◌, ◌>>◌, ◌when◌, ◌and◌, whether◌then◌otherwise◌, allowed, some_or, target_named, relno}
 
 -- the source as a transfer from it sees it
 abbrev pub source_of : Up → Relationship → Source
@@ -88,47 +89,17 @@ resume_or_start w k r kind None = start_it w k r kind
 abbrev pub initialize : Up → List ℕ → Answer
 initialize w destination = do
   t ← target_named w destination
-  refusals.Writable when is_rw t.destination.item.kind
-  refusals.Initialized when not (is_empty t.destination.item.snapshots)
-  refusals.Quiesced when t.relation.item.quiesced
-  refusals.Transferring when runs t.relation.item
+  allowed (may_initialize refusals.Writable refusals.Initialized refusals.Quiesced refusals.Transferring t.destination.item t.relation.item)
   resume_or_start w t.relation.at t.relation.item Initialize t.relation.item.transfer
 
--- a mirror whose volumes have numbers of different families
 abbrev pub has_other_layout : Up → Relationship → Bool
-has_other_layout w r = is_mirror (policy_at w r.policy).kind && not ((volume_at w r.source).family == (volume_at w r.destination).family)
-
--- there is nothing to go on from
-abbrev pub is_uninitialized : Volume → Relationship → Bool
-is_uninitialized v r = is_empty v.snapshots || (is_none r.base && is_none r.transfer)
+has_other_layout w r = layouts_differ (policy_at w r.policy) (volume_at w r.source) (volume_at w r.destination)
 
 abbrev pub update : Up → List ℕ → Answer
 update w destination = do
   t ← target_named w destination
-  refusals.Writable when is_rw t.destination.item.kind
-  refusals.Uninitialized when is_uninitialized t.destination.item t.relation.item
-  refusals.Quiesced when t.relation.item.quiesced
-  refusals.Transferring when runs t.relation.item
-  refusals.OtherLayout when has_other_layout w t.relation.item
+  allowed (may_update refusals.Writable refusals.Uninitialized refusals.Quiesced refusals.Transferring refusals.OtherLayout (has_other_layout w t.relation.item) t.destination.item t.relation.item)
   resume_or_start w t.relation.at t.relation.item Update t.relation.item.transfer
-
--- the first number that has not landed, of those from k on
-abbrev pub prefix_from : ℕ → ℕ → List ℕ → ℕ
-prefix_from zero k landed = k
-prefix_from (suc n) k landed = cond (stands k landed) (prefix_from n (suc k) landed) k
-
--- how many indexes landed before the first that did not
-abbrev pub landed_prefix : List ℕ → ℕ
-landed_prefix landed = prefix_from (length landed) 0 landed
-
--- the first leg is the base from now on
-abbrev pub settled : Relationship → Transfer → Ident → List Ident → Relationship
-settled r t i later = record r { base = Some i; transfer = Some (record t { legs = later; checkpoint = 0; landed = [] }) }
-
--- where the first leg is published, it is settled
-abbrev pub settled_if_there : List Snapshot → Relationship → Transfer → List Ident → Relationship
-settled_if_there there r t [] = r
-settled_if_there there r t (i ∷ is) = cond (has there i) (settled r t i is) r
 
 abbrev pub transfer_or : Transfer → Option Transfer → Transfer
 transfer_or t None = t
@@ -151,16 +122,12 @@ abbrev pub abort : Up → List ℕ → Bool → Answer
 abort w destination hard = do
   d ← target_named w destination
   t ← some_or refusals.NoTransfer d.relation.item.transfer
-  refusals.NoTransfer when not hard && is_some t.stopped
+  allowed (may_abort refusals.NoTransfer hard t)
   abort_settled w d.relation.at hard (settled_if_there d.destination.item.snapshots d.relation.item t t.legs) t
-
--- the snapshots after the one of the identity
-abbrev pub past : Ident → List Snapshot → List Snapshot
-past i ss = after (λ s. same_ident s.ident i) ss
 
 -- what a Revert to the identity leaves: a mirror's snapshots up to it, and all of a vault's
 abbrev pub as_reverted : Policy → Ident → List Snapshot → List Snapshot
-as_reverted p i ss = cond (is_mirror p.kind) (up_to (λ s. same_ident s.ident i) ss) ss
+as_reverted p i ss = cond (is_mirror p.kind) (until i ss) ss
 
 -- q needs it on the volume, for another reason than as r's base at r's destination
 abbrev pub needed_otherwise : Up → ℕ → Ident → Relationship → Relationship → Bool
@@ -187,6 +154,10 @@ held_downstream (Some h) = Err (refusals.HeldDownstream h.ident (relno h.relatio
 abbrev pub other_edges : Up → Relationship → List Edge
 other_edges w r = edges (record w { relations = filter (λ q. not (q.number == r.number)) w.relations })
 
+-- with the relationship's edge again, a walk would come back
+abbrev pub closes_again : Up → Relationship → Bool
+closes_again w r = upstream (other_edges w r) r.destination r.source
+
 -- of a mirror, the first snapshot after the common one that is needed for another reason
 abbrev pub held_after : Up → Relationship → Ident → List Snapshot → Option Holding
 held_after w r c there = cond (is_mirror (policy_at w r.policy).kind) (first_held (λ i. find (needed_otherwise w r.destination i r) w.relations) (past c there)) None
@@ -207,10 +178,7 @@ resync_from w k r c left = resync_with w k r c left (next_legs w r (Some c) left
 abbrev pub resync : Up → List ℕ → Answer
 resync w destination = do
   d ← target_named w destination
-  refusals.NotBroken when not (is_rw d.destination.item.kind)
-  refusals.Transferring when runs d.relation.item
-  refusals.OtherLayout when has_other_layout w d.relation.item
-  refusals.Cycle when upstream (other_edges w d.relation.item) d.relation.item.destination d.relation.item.source
+  allowed (may_resync refusals.NotBroken refusals.Transferring refusals.OtherLayout refusals.Cycle (has_other_layout w d.relation.item) (closes_again w d.relation.item) d.destination.item d.relation.item)
   c ← some_or refusals.NoCommon (common (volume_at w d.relation.item.source).snapshots d.destination.item.snapshots)
   held_downstream (held_after w d.relation.item c.ident d.destination.item.snapshots)
   resync_from w d.relation.at d.relation.item c.ident (as_reverted (policy_at w d.relation.item.policy) c.ident d.destination.item.snapshots)

@@ -1,5 +1,5 @@
 -- What events on volumes and snapshots are answered.
-use Rattle.std.specs.Prelude.{ℕ, ◌+◌, ◌*◌, ◌==◌, ◌||◌, nat_lt, List, [], ◌∷◌, ◌++◌, length, slice_get, slice_index_or, Option, Some, None, Result, Ok, Err}
+use Rattle.std.specs.Prelude.{ℕ, ◌*◌, ◌==◌, ◌||◌, nat_lt, List, [], ◌∷◌, ◌++◌, length, slice_get, slice_index_or, Option, Some, None, Result, Ok, Err}
 use Rattle.std.specs.List.{list_any}
 use Rattle.std.specs.Str.{bytes_eq}
 use Rattle.sm_base.specs.declared.numbers.Ident.{Ident}
@@ -9,20 +9,16 @@ use Rattle.sm_base.specs.declared.refusal.What.TheVariants.{Volumes}
 use Rattle.sm_base.specs.declared.refusal.Refusal.{Refusal}
 use Rattle.sm_base.specs.declared.refusal.Refusal.TheVariants as refusals
 use Rattle.sm_model.specs.declared.reply.Reply.TheVariants as replies
-use Rattle.sm_base.specs.declared.limits.TheConstants.{MOST_VOLUMES, MOST_SNAPSHOTS, LAST_NUMBER, BLOCKS_START}
+use Rattle.sm_base.specs.declared.limits.TheConstants.{MOST_VOLUMES, MOST_SNAPSHOTS, LAST_NUMBER}
 use Rattle.sm_defs.specs.Words.{last_that, same_ident}
 use Rattle.sm_defs.specs.Image.{Image, Block, hole, full_block}
-use Rattle.sm_defs.specs.Volume.{Volume, Snapshot, new_volume, without}
+use Rattle.sm_defs.specs.Volume.{Volume, Snapshot, new_volume, length_needed, without}
 use Rattle.sm_defs.specs.Operations.{least_free, settled, counted, with_snapshot, is_read_only, is_past, is_used_up, has_name}
 use Rattle.sm_defs.specs.Operations as operations
 use Rattle.sm_defs.specs.Relationship.{Relationship}
 use Rattle.sm_defs.specs.Needed.{holder}
 use Rattle.sm_defs.specs.World.{Up, with_volume}
 use Rattle.sm_model.specs.Answers.{Answer, ◌>>=◌, ◌>>◌, ◌when◌, ◌and◌, shows, some_or, volume_named, volno, relno}
-
--- how long a disk has to be, in bytes
-abbrev pub length_needed : ℕ → ℕ
-length_needed physical = BLOCKS_START + 4096 * physical
 
 abbrev pub with_new_volume : Up → Volume → Up
 with_new_volume w v = record w { volumes = w.volumes ++ v ∷ [] }
@@ -87,15 +83,11 @@ unsnap w path name = do
   held (holder w v.at s.ident)
   replies.Done and with_volume w v.at (without_snapshot v.item s.ident)
 
--- the active image is the stable one
-abbrev pub at_point : Volume → Volume
-at_point v = settled v
-
 abbrev pub cp : Up → List ℕ → Answer
 cp w path = do
   v ← volume_named w path
   refusals.ReadOnly when is_read_only v.item
-  replies.Done and with_volume w v.at (at_point v.item)
+  replies.Done and with_volume w v.at (settled v.item)
 
 unfoldable pub image_named : Volume → Option (List ℕ) → Result Image Refusal
 image_named v None = Ok v.active

@@ -1,14 +1,10 @@
 -- The world after a restart.
 use Rattle.std.specs.Prelude.{false, map, Option, Some, None}
 use Rattle.sm_base.specs.declared.refusal.Reason.TheVariants.{Restart}
-use Rattle.sm_defs.specs.Volume.{Volume, numbers}
+use Rattle.sm_defs.specs.Volume.{numbers}
 use Rattle.sm_defs.specs.Operations as operations
 use Rattle.sm_defs.specs.Relationship.{Relationship, Transfer}
 use Rattle.sm_defs.specs.World.{Up}
-
--- what was written since the last consistency point is lost
-abbrev pub reopened : Volume → Volume
-reopened v = operations.opened v
 
 -- whatever its reason was before
 abbrev pub restarted : Option Transfer → Option Transfer
@@ -19,4 +15,4 @@ abbrev pub rejoined : Relationship → Relationship
 rejoined r = record r { transfer = restarted r.transfer }
 
 abbrev pub opened : Up → Up
-opened w = record w { volumes = map reopened w.volumes; relations = map rejoined w.relations }
+opened w = record w { volumes = map operations.opened w.volumes; relations = map rejoined w.relations }

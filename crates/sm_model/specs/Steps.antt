@@ -1,24 +1,27 @@
 -- What a step of a running transfer looks at, and what it makes.
-use Rattle.std.specs.Prelude.{ℕ, suc, ◌+◌, ◌==◌, ◌&&◌, ◌||◌, not, nat_lt, Bool, false, List, [], ◌∷◌, ◌++◌, codes, decimal, Option, Some, None, if◌then◌else◌}
+use Rattle.std.specs.Prelude.{ℕ, suc, ◌+◌, ◌==◌, ◌&&◌, ◌||◌, not, nat_lt, Bool, false, List, [], ◌∷◌, ◌++◌, Option, Some, None, if◌then◌else◌}
 use Rattle.std.specs.List.{list_all, find}
 use Rattle.sm_base.specs.declared.numbers.Ident.{Ident}
 use Rattle.sm_base.specs.declared.numbers.RelNo.{RelNo}
 use Rattle.sm_base.specs.declared.refusal.Reason.{Reason}
 use Rattle.sm_model.specs.declared.reply.Reply.{Reply}
 use Rattle.sm_model.specs.declared.reply.Reply.TheVariants as replies
-use Rattle.sm_base.specs.declared.limits.TheConstants.{WINDOW, FIRST_MADE_FAMILY}
+use Rattle.sm_base.specs.declared.limits.TheConstants.{WINDOW}
 use Rattle.sm_defs.specs.Words.{same_ident}
 use Rattle.sm_defs.specs.Image.{Image, stands}
 use Rattle.sm_defs.specs.Volume.{Volume, Snapshot, has, numbers, free_tags}
 use Rattle.sm_defs.specs.Operations.{taken_over}
 use Rattle.sm_defs.specs.Operations as operations
 use Rattle.sm_defs.specs.Relationship.{Transfer, is_mirror}
+use Rattle.sm_defs.specs.Made.{made_name, family_of_transfer}
+use Rattle.sm_defs.specs.Progress.{landed_prefix}
 use Rattle.sm_defs.specs.Missing.{Bases, mirror_cost, vault_cost, vault_landing}
+use Rattle.sm_defs.specs.Classes.{class_of}
 use Rattle.sm_defs.specs.Retention.{retained}
 use Rattle.sm_defs.specs.World.{Up, with_volume, with_relation}
 use Rattle.sm_defs.specs.Needed.{needed}
 use Rattle.sm_model.specs.Answers.{relno}
-use Rattle.sm_model.specs.OfTransfers.{with_transfer, as_reverted, landed_prefix}
+use Rattle.sm_model.specs.OfTransfers.{with_transfer, as_reverted}
 use Rattle.sm_model.specs.Running.{Running}
 
 -- what a step is told, and the world after it
@@ -44,18 +47,11 @@ interrupted reason t = record t { stopped = Some reason; landed = numbers 0 t.ch
 abbrev pub interrupts : Up → ℕ → Running → Reason → Effect
 interrupts w k x reason = record { reply = replies.Interrupted (number_of x) reason; world = with_progress w k x (interrupted reason x.transfer) }
 
--- the family that belongs to a transfer alone
-abbrev pub family_of_transfer : ℕ → ℕ
-family_of_transfer transfer = FIRST_MADE_FAMILY + transfer
-
 -- the destination is read-only again, as it was at the base
 abbrev pub reverted : Running → Snapshot → Volume
 reverted x base = operations.reverted x.destination base.image
     (if is_mirror x.policy.kind then x.destination.family else family_of_transfer x.transfer.number)
     (as_reverted x.policy base.ident x.destination.snapshots)
-
-abbrev pub made_name : ℕ → ℕ → List ℕ
-made_name relation transfer = codes "snapmirror." ++ decimal relation ++ codes "." ++ decimal transfer
 
 -- the snapshot that a transfer makes
 abbrev pub prepared_snapshot : Up → Running → Ident → Snapshot
@@ -110,7 +106,7 @@ arrived x leg = record leg { image = landing x leg }
 -- the destination's list with the leg last, and what a vault keeps of it
 abbrev pub list_published : Up → Running → Snapshot → List Snapshot
 list_published w x s = if is_mirror x.policy.kind then x.destination.snapshots ++ s ∷ []
-    else retained x.policy.rules (needed w x.relation.destination) (x.destination.snapshots ++ s ∷ [])
+    else retained x.policy.rules (class_of x.policy) (needed w x.relation.destination) (x.destination.snapshots ++ s ∷ [])
 
 abbrev pub published : Up → Running → Snapshot → Volume
 published w x leg = taken_over x.destination (landing x leg) (family_published w x leg.ident) (list_published w x (arrived x leg))

@@ -17,6 +17,7 @@ use Rattle.sm_model.specs.Origin.{made_by}
 use Rattle.sm_model.specs.OfVolumes as volumes
 use Rattle.sm_model.specs.OfRelations as relations
 use Rattle.sm_model.specs.OfTransfers as transfers
+use Rattle.sm_defs.specs.Operations as operations
 
 -- the volume that was found stands at its place
 pub record VolumeAt (w : Up) (v : Found Volume) : Type 0 where
@@ -63,8 +64,8 @@ pub data IsChange (w : Up) (e : Event) : Up → Type 0 where
   writes : (v : Found Volume) → WritableAt w v → (block fill : ℕ) → IsChange w e (with_volume w v.at (volumes.written v.item block fill))
   drops : (path name : List ℕ) → e ≡ events.Unsnap path name → (v : Found Volume) → volume_named w path ≡ Ok v → WritableAt w v →
       (s : Snapshot) → volumes.snapshot_named v.item name ≡ Ok s → holder w v.at s.ident ≡ None → IsChange w e (with_volume w v.at (volumes.without_snapshot v.item s.ident))
-  points : (v : Found Volume) → WritableAt w v → IsChange w e (with_volume w v.at (volumes.at_point v.item))
-  breaks : (v : Found Volume) → VolumeAt w v → IsChange w e (with_volume w v.at (relations.writable v.item))
+  points : (v : Found Volume) → WritableAt w v → IsChange w e (with_volume w v.at (operations.settled v.item))
+  breaks : (v : Found Volume) → VolumeAt w v → IsChange w e (with_volume w v.at (operations.writable v.item))
   relates : (source destination policy : ℕ) → IsChange w e (relations.with_new_relation w source destination policy)
   changes : (r : Found Relationship) → RelationAt w r → (q : Relationship) → Follows r.item q → IsChange w e (with_relation w r.at q)
   halves : (r : Found Relationship) → RelationAt w r → (q : Relationship) → Follows r.item q → IsChange w e (relations.with_halves w r.at q)

@@ -17,10 +17,11 @@ use Rattle.sm_model.specs.Origin.{made_by}
 use Rattle.sm_model.specs.OfRelations as relations
 use Rattle.sm_model.specs.OfTransfers as transfers
 use Rattle.sm_model.specs.Answers.{goes_to, Target}
-use Rattle.laws_cases.proofs.Answers.Walk.{OfOk, past, with_found, with_held, with_target, whether_so}
+use Rattle.laws_cases.proofs.Answers.Walk.{OfOk, past, with_found, with_held, with_target, whether_so, passing, passed}
 use Rattle.laws_cases.proofs.Answers.Changes.{RelationAt, Follows, Starts, Is, breaks, relates, changes, halves, starts}
 use Rattle.laws_cases.proofs.Answers.Plainly.{volume_at_place, relation_at_place, by_told, by_done, same}
 use Rattle.laws_cases.proofs.Lists.Members.{found_passes}
+use Rattle.sm_defs.specs.Progress as progress
 
 -- ---- relationships
 
@@ -36,10 +37,10 @@ pub set_quiesced : (w : Up) (ev : Event) (d : List ℕ) (flag : Bool) → OfOk (
 set_quiesced w ev d flag = with_target _ _ _ _ (λ t _ is. by_done w _ ev (changes t.relation (relation_at_place w _ t.relation is) _ (same_transfer t.relation.item _ refl refl refl refl)))
 
 pub break_off : (w : Up) (ev : Event) (d : List ℕ) → OfOk (Is w ev) (relations.break_off w d)
-break_off w ev d = with_target _ _ _ _ (λ t is _. past _ _ _ _ (λ _. past _ _ _ _ (λ _. past _ _ _ _ (λ _. by_done w _ ev (breaks t.destination (volume_at_place w _ t.destination is))))))
+break_off w ev d = with_target _ _ _ _ (λ t is _. passing _ _ _ _ _ (λ _. passing _ _ _ _ _ (λ _. passed _ _ _ _ (λ _. by_done w _ ev (breaks t.destination (volume_at_place w _ t.destination is))))))
 
 pub delete : (w : Up) (ev : Event) (d : List ℕ) → OfOk (Is w ev) (relations.delete w d)
-delete w ev d = with_target _ _ _ _ (λ t _ is. past _ _ _ _ (λ _. by_done w _ ev (halves t.relation (relation_at_place w _ t.relation is) _ (same_transfer t.relation.item _ refl refl refl refl))))
+delete w ev d = with_target _ _ _ _ (λ t _ is. passed _ _ _ _ (λ _. by_done w _ ev (halves t.relation (relation_at_place w _ t.relation is) _ (same_transfer t.relation.item _ refl refl refl refl))))
 
 pub either : {X : Type 0} (o q : Option X) (x : X) → or_else o q ≡ Some x → (o ≡ Some x) ⊎ (q ≡ Some x)
 either (Some y) q x e = inl e
@@ -53,7 +54,7 @@ released_at w o q r e = go (either (found o w.relations) (found q w.relations) r
     go (inr f) = relation_at_place w q r f
 
 pub release : (w : Up) (ev : Event) (s d : List ℕ) → OfOk (Is w ev) (relations.release w s d)
-release w ev s d = with_found _ _ _ _ (λ s _. with_found _ _ _ _ (λ d _. with_found _ _ _ _ (λ r is. past _ _ _ _ (λ _. past _ _ _ _ (λ _.
+release w ev s d = with_found _ _ _ _ (λ s _. with_found _ _ _ _ (λ d _. with_found _ _ _ _ (λ r is. passing _ _ _ _ _ (λ _. passed _ _ _ _ (λ _.
     by_done w _ ev (halves r (released_at w _ _ r is) _ (same_transfer r.item _ refl refl refl refl)))))))
 
 -- ---- transfers
@@ -90,17 +91,17 @@ start w ev r kind (Some t) a e = by_told w _ ev _ (record { makes_none = refl; a
 start w ev r kind None a e = start_it w ev r kind a
 
 pub initialize : (w : Up) (ev : Event) (d : List ℕ) → OfOk (Is w ev) (transfers.initialize w d)
-initialize w ev d = with_target _ _ _ _ (λ t _ is. past _ _ _ _ (λ _. past _ _ _ _ (λ _. past _ _ _ _ (λ _. past _ _ _ _ (λ _. start w ev t.relation Initialize _ (relation_at_place w _ t.relation is) refl)))))
+initialize w ev d = with_target _ _ _ _ (λ t _ is. passing _ _ _ _ _ (λ _. passing _ _ _ _ _ (λ _. passing _ _ _ _ _ (λ _. passed _ _ _ _ (λ _. start w ev t.relation Initialize _ (relation_at_place w _ t.relation is) refl)))))
 
 pub update : (w : Up) (ev : Event) (d : List ℕ) → OfOk (Is w ev) (transfers.update w d)
-update w ev d = with_target _ _ _ _ (λ t _ is. past _ _ _ _ (λ _. past _ _ _ _ (λ _. past _ _ _ _ (λ _. past _ _ _ _ (λ _. past _ _ _ _ (λ _. start w ev t.relation Update _ (relation_at_place w _ t.relation is) refl))))))
+update w ev d = with_target _ _ _ _ (λ t _ is. passing _ _ _ _ _ (λ _. passing _ _ _ _ _ (λ _. passing _ _ _ _ _ (λ _. passing _ _ _ _ _ (λ _. passed _ _ _ _ (λ _. start w ev t.relation Update _ (relation_at_place w _ t.relation is) refl))))))
 
 -- a settled leg leaves the number and the mark, and is the base
-pub settled_follows : (there : List Snapshot) (r : Relationship) (t : Transfer) (is : List Ident) → r.transfer ≡ Some t → Follows r (transfers.settled_if_there there r t is)
+pub settled_follows : (there : List Snapshot) (r : Relationship) (t : Transfer) (is : List Ident) → r.transfer ≡ Some t → Follows r (progress.settled_if_there there r t is)
 settled_follows there r t [] e = same_transfer r r refl refl refl refl
 settled_follows there r t (i ∷ is) e = go (has there i)
   where
-    go : (b : Bool) → Follows r (cond b (transfers.settled r t i is) r)
+    go : (b : Bool) → Follows r (cond b (progress.settled r t i is) r)
     go true = record {
       number = refl;
       source = refl;
@@ -109,11 +110,11 @@ settled_follows there r t (i ∷ is) e = go (has there i)
     }
     go false = same_transfer r r refl refl refl refl
 
-pub settled_transfer : (there : List Snapshot) (r : Relationship) (t : Transfer) (is : List Ident) → r.transfer ≡ Some t → (v : Transfer) × ((transfers.settled_if_there there r t is).transfer ≡ Some v)
+pub settled_transfer : (there : List Snapshot) (r : Relationship) (t : Transfer) (is : List Ident) → r.transfer ≡ Some t → (v : Transfer) × ((progress.settled_if_there there r t is).transfer ≡ Some v)
 settled_transfer there r t [] e = (t, e)
 settled_transfer there r t (i ∷ is) e = go (has there i)
   where
-    go : (b : Bool) → (v : Transfer) × ((cond b (transfers.settled r t i is) r).transfer ≡ Some v)
+    go : (b : Bool) → (v : Transfer) × ((cond b (progress.settled r t i is) r).transfer ≡ Some v)
     go true = (_, refl)
     go false = (t, e)
 
@@ -130,14 +131,14 @@ halted_follows r q t f (v, g) = subst (λ o. Follows r (transfers.with_transfer 
 
 pub abort : (w : Up) (ev : Event) (d : List ℕ) (hard : Bool) → OfOk (Is w ev) (transfers.abort w d hard)
 unfolding made_by
-abort w ev d hard = with_target _ _ _ _ (λ d _ is. with_found _ _ _ _ (λ t e. past _ _ _ _ (λ _.
+abort w ev d hard = with_target _ _ _ _ (λ d _ is. with_found _ _ _ _ (λ t e. passed _ _ _ _ (λ _.
     let a = relation_at_place w _ d.relation is in let f = settled_follows d.destination.item.snapshots d.relation.item t t.legs e in
     whether_so _ _ _ _ (λ _. by_told w _ ev _ (record { makes_none = refl; accepted = λ r e. cc }) (changes d.relation a _ (ended_follows d.relation.item _ f)))
     (λ _. by_told w _ ev _ (record { makes_none = refl; accepted = λ r e. cc }) (changes d.relation a _ (halted_follows d.relation.item _ t f (settled_transfer d.destination.item.snapshots d.relation.item t t.legs e)))))))
 
 pub resync : (w : Up) (ev : Event) (d : List ℕ) → OfOk (Is w ev) (transfers.resync w d)
 unfolding made_by
-resync w ev d = with_target _ _ _ _ (λ t _ is. past _ _ _ _ (λ _. past _ _ _ _ (λ _. past _ _ _ _ (λ _. past _ _ _ _ (λ _. with_found _ _ _ _ (λ c _. with_held _ _ _ (λ _. with_held _ _ _ (λ _. past _ _ _ _ (λ _.
+resync w ev d = with_target _ _ _ _ (λ t _ is. passing _ _ _ _ _ (λ _. passing _ _ _ _ _ (λ _. passing _ _ _ _ _ (λ _. passed _ _ _ _ (λ _. with_found _ _ _ _ (λ c _. with_held _ _ _ (λ _. with_held _ _ _ (λ _. past _ _ _ _ (λ _.
     by_told w _ ev _ (record { makes_none = refl; accepted = λ r e. cc }) (starts t.relation (relation_at_place w _ t.relation is) _ (started w t.relation.item _ Resync _ refl refl refl (λ b. absurd (cc)))))))))))))
 
 pub goes_there : (w : Up) (i : ℕ) (r : Found Relationship) → found (goes_to i) w.relations ≡ Some r → r.item.destination ≡ i

@@ -1,7 +1,8 @@
 -- How to go through an answer, refusal by refusal.
 use Rattle.std.proofs.Common.{◌≡◌, ℕ, List, Bool, true, false, Option, Some, None, Result, Ok, Err, refl, subst}
+use Rattle.sm_defs.specs.May.{refused}
 use Rattle.sm_base.specs.declared.refusal.Refusal.{Refusal}
-use Rattle.sm_model.specs.Answers.{Answer, Reached, Target, target_named, goes_to, and_then, refused_if, ◌>>=◌, ◌>>◌, ◌when◌, whether◌then◌otherwise◌, some_or}
+use Rattle.sm_model.specs.Answers.{Answer, Reached, Target, target_named, goes_to, and_then, refused_if, allowed, ◌>>=◌, ◌>>◌, ◌when◌, whether◌then◌otherwise◌, some_or}
 use Rattle.sm_base.specs.declared.refusal.Refusal.TheVariants as refusals
 use Rattle.std.specs.Str.{bytes_eq}
 use Rattle.sm_base.specs.declared.refusal.Reason.{Reason}
@@ -23,6 +24,18 @@ pub past : {A : Type 0} (P : A → Type 0) (r : Refusal) (b : Bool) (m : Result 
 unfolding OfOk and_then refused_if
 past P r true m h = tt
 past P r false m h = h refl
+
+-- past a test of a command, with others behind it
+pub passing : {A : Type 0} (P : A → Type 0) (r : Refusal) (b : Bool) (o : Option Refusal) (m : Result A Refusal) → (b ≡ false → OfOk P (allowed o >> m)) → OfOk P (allowed (refused r b o) >> m)
+unfolding OfOk and_then allowed refused
+passing P r true o m h = tt
+passing P r false o m h = h refl
+
+-- past the last test of a command
+pub passed : {A : Type 0} (P : A → Type 0) (r : Refusal) (b : Bool) (m : Result A Refusal) → (b ≡ false → OfOk P m) → OfOk P (allowed (refused r b None) >> m)
+unfolding OfOk and_then allowed refused
+passed P r true m h = tt
+passed P r false m h = h refl
 
 -- with what was found
 pub with_found : {A B : Type 0} (P : B → Type 0) (r : Refusal) (o : Option A) (f : A → Result B Refusal) → ((x : A) → o ≡ Some x → OfOk P (f x)) → OfOk P (some_or r o >>= f)

@@ -18,6 +18,9 @@ use Rattle.sm_model.specs.OfPolicies as policies
 use Rattle.sm_model.specs.OfRelations as relations
 use Rattle.sm_model.specs.OfTransfers as transfers
 use Rattle.laws_cases.proofs.Answers.Changes.{VolumeAt, WritableAt, RelationAt}
+use Rattle.sm_defs.specs.Operations as operations
+use Rattle.sm_defs.specs.Rules as rules
+use Rattle.sm_defs.specs.Progress as progress
 
 -- the policy that was found stands at its place
 pub record PolicyAt (w : Up) (p : Found Policy) : Type 0 where
@@ -30,13 +33,13 @@ pub data Aside (w : Up) : Up → Type 0 where
   nothing : Aside w w
   clock : (time : ℕ) → Aside w (policies.at_time w time)
   new_policy : (p : Policy) → Aside w (policies.with_new_policy w p)
-  rule : (p : Found Policy) → PolicyAt w p → (r : Rule) → Aside w (policies.with_policy w p.at (policies.with_rule p.item r))
+  rule : (p : Found Policy) → PolicyAt w p → (r : Rule) → Aside w (policies.with_policy w p.at (rules.with_rule p.item r))
   creates : (path : List ℕ) (disk : ℕ) (kind : Kind) (logical physical : ℕ) → Aside w (volumes.with_new_volume w (new_volume path disk kind (length w.volumes) logical physical))
   writes : (v : Found Volume) → WritableAt w v → (block fill : ℕ) → Aside w (with_volume w v.at (volumes.written v.item block fill))
   drops : (v : Found Volume) → WritableAt w v → (s : Snapshot) → holder w v.at s.ident ≡ None → Aside w (with_volume w v.at (volumes.without_snapshot v.item s.ident))
-  points : (v : Found Volume) → WritableAt w v → Aside w (with_volume w v.at (volumes.at_point v.item))
+  points : (v : Found Volume) → WritableAt w v → Aside w (with_volume w v.at (operations.settled v.item))
   breaks : (v : Found Volume) → VolumeAt w v → v.item.kind ≡ Dp → v.item.snapshots ≢ [] → (r : Found Relationship) → found (goes_to v.at) w.relations ≡ Some r → r.item.transfer ≡ None →
-      Aside w (with_volume w v.at (relations.writable v.item))
+      Aside w (with_volume w v.at (operations.writable v.item))
   snaps : (v : Found Volume) → WritableAt w v → (p : Volume → Bool) → found p w.volumes ≡ Some v → (name : List ℕ) (label : Option (List ℕ)) → Aside w (with_volume w v.at (volumes.snapped v.at w.clock v.item name label))
 
 -- the relationship r goes on, with the same transfer or without it
@@ -47,10 +50,10 @@ pub data Turn (w : Up) (r : Relationship) : Relationship → Type 0 where
   ends : (t : Transfer) → r.transfer ≡ Some t → ((i : Ident) (later : List Ident) → t.legs ≡ i ∷ later → has (volume_at w r.destination).snapshots i ≡ false) → Turn w r (transfers.without_transfer r)
   -- with its first leg settled, which the destination has
   ends_settled : (t : Transfer) (i : Ident) (later : List Ident) → r.transfer ≡ Some t → t.legs ≡ i ∷ later → has (volume_at w r.destination).snapshots i ≡ true →
-      Turn w r (transfers.without_transfer (transfers.settled r t i later))
+      Turn w r (transfers.without_transfer (progress.settled r t i later))
   halts : (t : Transfer) (i : Ident) (later : List Ident) → r.transfer ≡ Some t → t.legs ≡ i ∷ later → has (volume_at w r.destination).snapshots i ≡ false → Turn w r (transfers.with_transfer r (transfers.halted t))
   halts_settled : (t : Transfer) (i : Ident) (later : List Ident) → r.transfer ≡ Some t → t.legs ≡ i ∷ later → later ≢ [] → has (volume_at w r.destination).snapshots i ≡ true →
-      Turn w r (transfers.with_transfer (transfers.settled r t i later) (transfers.halted (record t { legs = later; checkpoint = 0; landed = [] })))
+      Turn w r (transfers.with_transfer (progress.settled r t i later) (transfers.halted (record t { legs = later; checkpoint = 0; landed = [] })))
 
 -- the relationship r has the next transfer
 pub data Start (w : Up) (r : Relationship) : Relationship → Type 0 where

@@ -20,7 +20,7 @@ use Rattle.sm_model.specs.World.{Deed}
 use Rattle.sm_model.specs.LegalRun.{IsStepDeed, IsDeed}
 use Rattle.sm_model.specs.OfRelations as relations
 use Rattle.sm_model.specs.OfTransfers as transfers
-use Rattle.laws_cases.proofs.Answers.Walk.{OfOk, past, with_found, with_ok, with_held, with_target, whether_so, now}
+use Rattle.laws_cases.proofs.Answers.Walk.{OfOk, past, with_found, with_ok, with_held, with_target, whether_so, now, passing, passed}
 use Rattle.laws_cases.proofs.Lists.Members.{found_among, found_at, found_within, found_passes}
 use Rattle.laws_cases.proofs.Answers.Changes.{VolumeAt, RelationAt}
 use Rattle.laws_cases.proofs.Answers.Plainly.{volume_at_place, writable_if, writable_at_place, relation_at_place, dp_from}
@@ -29,6 +29,7 @@ use Rattle.laws_cases.proofs.Answers.OfRelationEvents.{released_at, either, fill
 use Rattle.laws_cases.proofs.Answers.OfAnswer.{OfAnswer}
 use Rattle.laws_cases.proofs.Answers.Deeds.{from_answer, done_gives}
 use Rattle.laws_cases.proofs.Moves.Moves.{PolicyAt, Aside, Turn, IsMove, Moves, nothing, clock, new_policy, rule, creates, writes, drops, points, breaks, snaps, quiesces, resumes, ends, ends_settled, halts, halts_settled, starts, resyncs, deletes, releases, aside, relates, turns, begins, halves}
+use Rattle.sm_defs.specs.Progress as progress
 
 pub policy_at_place : (w : Up) (p : Policy → Bool) (q : Found Policy) → found p w.policies ≡ Some q → PolicyAt w q
 policy_at_place w p q e = record { within = found_within p w.policies q e; among = found_among p w.policies q e; at = found_at p w.policies q no_policy e }
@@ -61,11 +62,11 @@ no_transfer None e = refl
 no_transfer (Some t) e = absurd (cc)
 
 break_off : (w : Up) (d : List ℕ) → OfOk (Moves w) (relations.break_off w d)
-break_off w d = with_target _ _ _ _ (λ t at is. past _ _ _ _ (λ a. past _ _ _ _ (λ b. past _ _ _ _ (λ c. now (Moves w) _
+break_off w d = with_target _ _ _ _ (λ t at is. passing _ _ _ _ _ (λ a. passing _ _ _ _ _ (λ b. passed _ _ _ _ (λ c. now (Moves w) _
     (aside (breaks t.destination (volume_at_place w _ t.destination at) (dp_from t.destination.item.kind a) (filled _ b) t.relation is (no_transfer _ c)))))))
 
 delete : (w : Up) (d : List ℕ) → OfOk (Moves w) (relations.delete w d)
-delete w d = with_target _ _ _ _ (λ t _ is. past _ _ _ _ (λ c. now (Moves w) _ (halves t.relation (relation_at_place w _ t.relation is) _ (deletes (goes_half w _ t.relation is) (no_transfer _ c)))))
+delete w d = with_target _ _ _ _ (λ t _ is. passed _ _ _ _ (λ c. now (Moves w) _ (halves t.relation (relation_at_place w _ t.relation is) _ (deletes (goes_half w _ t.relation is) (no_transfer _ c)))))
 
 rw_unless : (w : Up) (d : Found Volume) (r : Found Relationship) → VolumeAt w d → r.item.destination ≡ d.at → (r.item.destination_half && not (is_rw d.item.kind)) ≡ false → r.item.destination_half ≡ true → (volume_at w r.item.destination).kind ≡ Rw
 rw_unless w d r a to c h = ap (λ i. (volume_at w i).kind) to ∙ (ap (λ y. y.kind) a.at ∙ go r.item.destination_half d.item.kind c h)
@@ -86,7 +87,7 @@ released_there w s d r e = go (either (found (λ q. relations.is_between s d q &
     go (inr f) = between r.item (found_passes (relations.is_between s d) w.relations r f)
 
 release : (w : Up) (s d : List ℕ) → OfOk (Moves w) (relations.release w s d)
-release w s d = with_found _ _ _ _ (λ s _. with_found _ _ _ _ (λ d to. with_found _ _ _ _ (λ r is. past _ _ _ _ (λ b. past _ _ _ _ (λ c. now (Moves w) _
+release w s d = with_found _ _ _ _ (λ s _. with_found _ _ _ _ (λ d to. with_found _ _ _ _ (λ r is. passing _ _ _ _ _ (λ b. passed _ _ _ _ (λ c. now (Moves w) _
     (halves r (released_at w _ _ r is) _ (releases (rw_unless w d r (volume_at_place w _ d to) (released_there w s.at d.at r is) b) (no_transfer _ c))))))))
 
 -- ---- transfers that start or go on
@@ -103,12 +104,12 @@ start w r kind (Some t) a half k e dp first = now (Moves w) _ (turns r a half _ 
 start w r kind None a half k e dp first = start_it w r kind a half k e dp (first e)
 
 initialize : (w : Up) (d : List ℕ) → OfOk (Moves w) (transfers.initialize w d)
-initialize w d = with_target _ _ _ _ (λ t at is. past _ _ _ _ (λ a. past _ _ _ _ (λ b. past _ _ _ _ (λ _. past _ _ _ _ (λ _. let v = at_target w t _ at is in
+initialize w d = with_target _ _ _ _ (λ t at is. passing _ _ _ _ _ (λ a. passing _ _ _ _ _ (λ b. passing _ _ _ _ _ (λ _. passed _ _ _ _ (λ _. let v = at_target w t _ at is in
     start w t.relation Initialize _ (relation_at_place w _ t.relation is) (goes_half w _ t.relation is) (λ e. cc) refl (ap (λ y. y.kind) v ∙ dp_from t.destination.item.kind a)
     (λ _ _ u m. none_empty t.destination.item.snapshots (not-false (is_empty t.destination.item.snapshots) b) u (subst (λ y. Among y.snapshots u) v m)))))))
 
 update : (w : Up) (d : List ℕ) → OfOk (Moves w) (transfers.update w d)
-update w d = with_target _ _ _ _ (λ t at is. past _ _ _ _ (λ a. past _ _ _ _ (λ b. past _ _ _ _ (λ _. past _ _ _ _ (λ _. past _ _ _ _ (λ _. let v = at_target w t _ at is in
+update w d = with_target _ _ _ _ (λ t at is. passing _ _ _ _ _ (λ a. passing _ _ _ _ _ (λ b. passing _ _ _ _ _ (λ _. passing _ _ _ _ _ (λ _. passed _ _ _ _ (λ _. let v = at_target w t _ at is in
     start w t.relation Update _ (relation_at_place w _ t.relation is) (goes_half w _ t.relation is) (λ e. cc) refl (ap (λ y. y.kind) v ∙ dp_from t.destination.item.kind a)
     (λ o n. absurd (some_base (is_empty t.destination.item.snapshots) t.relation.item.base t.relation.item.transfer b o n))))))))
 
@@ -124,7 +125,7 @@ abort_left w r t hard a half e n h = subst (λ o. OfOk (Moves w) (transfers.abor
     (whether_so (Moves w) (hard || is_empty t.legs) _ _ (λ _. now (Moves w) _ (turns r a half _ (ends t e n))) (λ m. now (Moves w) _ (turns r a half _ (h m))))
 
 abort_first : (w : Up) (r : Found Relationship) (t : Transfer) (hard : Bool) (i : Ident) (later : List Ident) (there : List Snapshot) (b : Bool) → RelationAt w r → r.item.destination_half ≡ true → r.item.transfer ≡ Some t →
-    (volume_at w r.item.destination).snapshots ≡ there → t.legs ≡ i ∷ later → has there i ≡ b → OfOk (Moves w) (transfers.abort_settled w r.at hard (cond b (transfers.settled r.item t i later) r.item) t)
+    (volume_at w r.item.destination).snapshots ≡ there → t.legs ≡ i ∷ later → has there i ≡ b → OfOk (Moves w) (transfers.abort_settled w r.at hard (cond b (progress.settled r.item t i later) r.item) t)
 abort_first w r t hard i later there true a half e f l h = whether_so (Moves w) (hard || is_empty later) _ _
     (λ _. now (Moves w) _ (turns r a half _ (ends_settled t i later e l (ap (λ ss. has ss i) f ∙ h))))
     (λ m. now (Moves w) _ (turns r a half _ (halts_settled t i later e l (filled later (or_parts hard (is_empty later) m).1) (ap (λ ss. has ss i) f ∙ h))))
@@ -132,18 +133,18 @@ abort_first w r t hard i later there false a half e f l h = abort_left w r t har
     subst (λ y. has (volume_at w r.item.destination).snapshots y ≡ false) first (ap (λ ss. has ss i) f ∙ h)) (λ _. halts t i later e l (ap (λ ss. has ss i) f ∙ h))
 
 abort_legs : (w : Up) (r : Found Relationship) (t : Transfer) (hard : Bool) (is : List Ident) (there : List Snapshot) → RelationAt w r → r.item.destination_half ≡ true → r.item.transfer ≡ Some t →
-    (volume_at w r.item.destination).snapshots ≡ there → t.legs ≡ is → OfOk (Moves w) (transfers.abort_settled w r.at hard (transfers.settled_if_there there r.item t is) t)
+    (volume_at w r.item.destination).snapshots ≡ there → t.legs ≡ is → OfOk (Moves w) (transfers.abort_settled w r.at hard (progress.settled_if_there there r.item t is) t)
 abort_legs w r t hard [] there a half e f l = abort_left w r t hard a half e (λ i later k. absurd (let g : [] ≡ i ∷ later = sym l ∙ k in cc)) (λ m. absurd (no_legs hard t l m))
 abort_legs w r t hard (i ∷ later) there a half e f l = abort_first w r t hard i later there (has there i) a half e f l refl
 
 abort : (w : Up) (d : List ℕ) (hard : Bool) → OfOk (Moves w) (transfers.abort w d hard)
-abort w d hard = with_target _ _ _ _ (λ d at is. with_found _ _ _ _ (λ t e. past _ _ _ _ (λ _.
+abort w d hard = with_target _ _ _ _ (λ d at is. with_found _ _ _ _ (λ t e. passed _ _ _ _ (λ _.
     abort_legs w d.relation t hard t.legs d.destination.item.snapshots (relation_at_place w _ d.relation is) (goes_half w _ d.relation is) e (ap (λ y. y.snapshots) (at_target w d _ at is)) refl)))
 
 -- ---- Resync
 
 resync : (w : Up) (d : List ℕ) → OfOk (Moves w) (transfers.resync w d)
-resync w d = with_target _ _ _ _ (λ t at is. past _ _ _ _ (λ a. past _ _ _ _ (λ _. past _ _ _ _ (λ b. past _ _ _ _ (λ _. with_found _ _ _ _ (λ c e. with_held _ _ _ (λ _. with_held _ _ _ (λ _. past _ _ _ _ (λ _. now (Moves w) _
+resync w d = with_target _ _ _ _ (λ t at is. passing _ _ _ _ _ (λ a. passing _ _ _ _ _ (λ _. passing _ _ _ _ _ (λ b. passed _ _ _ _ (λ _. with_found _ _ _ _ (λ c e. with_held _ _ _ (λ _. with_held _ _ _ (λ _. past _ _ _ _ (λ _. now (Moves w) _
     (found_common w t c (relation_at_place w _ t.relation is) (goes_half w _ t.relation is) (at_target w t _ at is) (writable_if w t.destination (volume_at_place w _ t.destination at) a).is_rw b e))))))))))
   where
     Resynced : Up → Target → Snapshot → List Snapshot → Up

@@ -1,26 +1,28 @@
--- Policies keep their kinds and their rules.
+-- Policies keep their kinds, and take no class away.
 use Rattle.std.proofs.Common.{◌≡◌, ◌⊎◌, ◌<◌, ℕ, Bool, true, false, cond, List, [], ◌∷◌, ◌++◌, length, Option, Some, None, is_some, refl, sym, ap, subst, ◌∙◌, inl, inr}
 use Rattle.std.specs.Prelude.{slice_set, slice_index_or}
 use Rattle.std.specs.List.{find}
 use Rattle.std.specs.Str.{bytes_eq}
+use Rattle.sm_defs.proofs.Classes.{more_classes}
+use Rattle.sm_defs.specs.Classes.{has_class}
 use Rattle.sm_defs.specs.Words.{Found}
 use Rattle.sm_defs.specs.Volume.{Snapshot}
 use Rattle.sm_defs.specs.Relationship.{Rule, Policy, rule_for}
-use Rattle.sm_defs.specs.Legs.{has_rule}
 use Rattle.sm_defs.specs.World.{Up, policy_at, no_policy}
-use Rattle.sm_model.specs.OfPolicies.{with_policy, with_rule, with_new_policy}
+use Rattle.sm_model.specs.OfPolicies.{with_policy, with_new_policy}
 use Rattle.laws_cases.proofs.Needed.Needs.{set_cases, push_within}
 use Rattle.laws_cases.proofs.Moves.Moves.{PolicyAt, Aside, nothing, clock, new_policy, rule, creates, writes, drops, points, breaks, snaps}
+use Rattle.sm_defs.specs.Rules.{with_rule}
 
--- policies keep their kinds, and what had a rule has it still
+-- policies keep their kinds, and what had a class has one still
 pub record PoliciesStay (w u : Up) : Type 0 where
   pub kinds : (k : ℕ) → k < length w.policies → (policy_at u k).kind ≡ (policy_at w k).kind
-  pub rules : (k : ℕ) → k < length w.policies → (s : Snapshot) → has_rule (policy_at w k).rules s ≡ true → has_rule (policy_at u k).rules s ≡ true
+  pub classes : (k : ℕ) → k < length w.policies → (s : Snapshot) → has_class (policy_at w k) s ≡ true → has_class (policy_at u k) s ≡ true
 
 pub same_policies : (w u : Up) → u.policies ≡ w.policies → PoliciesStay w u
 same_policies w u e = record {
   kinds = λ k l. ap (λ ps. (slice_index_or ps k no_policy).kind) e;
-  rules = λ k l s h. subst (λ ps. has_rule (slice_index_or ps k no_policy).rules s ≡ true) (sym e) h;
+  classes = λ k l s h. subst (λ ps. has_class (slice_index_or ps k no_policy) s ≡ true) (sym e) h;
 }
 
 -- what was found in a list is found in a longer one
@@ -32,15 +34,12 @@ found_longer {X} p (x ∷ xs) ys e = go (p x) e (found_longer p xs ys)
     go true f h = refl
     go false f h = h f
 
-more_rules : (rules more : List Rule) (s : Snapshot) → has_rule rules s ≡ true → has_rule (rules ++ more) s ≡ true
-more_rules rules more s h = go s.label h
-  where
-    go : (label : Option (List ℕ)) → is_some (rule_for rules label) ≡ true → is_some (rule_for (rules ++ more) label) ≡ true
-    go None e = absurd (cc)
-    go (Some label) e = found_longer (λ r. bytes_eq r.label label) rules more e
+more_rules : (rules more : List Rule) (label : Option (List ℕ)) → is_some (rule_for rules label) ≡ true → is_some (rule_for (rules ++ more) label) ≡ true
+more_rules rules more None e = absurd (cc)
+more_rules rules more (Some label) e = found_longer (λ r. bytes_eq r.label label) rules more e
 
 rule_added : (w : Up) (p : Found Policy) (r : Rule) → PolicyAt w p → PoliciesStay w (with_policy w p.at (with_rule p.item r))
-rule_added w p r a = record { kinds = λ k l. kind k (set_cases w.policies p.at k (with_rule p.item r) no_policy); rules = λ k l s h. has k s h (set_cases w.policies p.at k (with_rule p.item r) no_policy) }
+rule_added w p r a = record { kinds = λ k l. kind k (set_cases w.policies p.at k (with_rule p.item r) no_policy); classes = λ k l s h. has k s h (set_cases w.policies p.at k (with_rule p.item r) no_policy) }
   where
     new : ℕ → Policy
     new k = slice_index_or (slice_set w.policies p.at (with_rule p.item r)) k no_policy
@@ -52,14 +51,14 @@ rule_added w p r a = record { kinds = λ k l. kind k (set_cases w.policies p.at 
     kind k (inl e) = ap (λ y. y.kind) e
     kind k (inr (d, e)) = ap (λ y. y.kind) e ∙ ap (λ y. y.kind) (sym (old k d))
 
-    has : (k : ℕ) (s : Snapshot) → has_rule (policy_at w k).rules s ≡ true → (new k ≡ policy_at w k) ⊎ ((k ≡ p.at) × (new k ≡ with_rule p.item r)) → has_rule (new k).rules s ≡ true
-    has k s h (inl e) = subst (λ y. has_rule y.rules s ≡ true) (sym e) h
-    has k s h (inr (d, e)) = subst (λ y. has_rule y.rules s ≡ true) (sym e) (more_rules p.item.rules (r ∷ []) s (subst (λ y. has_rule y.rules s ≡ true) (old k d) h))
+    has : (k : ℕ) (s : Snapshot) → has_class (policy_at w k) s ≡ true → (new k ≡ policy_at w k) ⊎ ((k ≡ p.at) × (new k ≡ with_rule p.item r)) → has_class (new k) s ≡ true
+    has k s h (inl e) = subst (λ y. has_class y s ≡ true) (sym e) h
+    has k s h (inr (d, e)) = subst (λ y. has_class y s ≡ true) (sym e) (more_classes p.item (with_rule p.item r) refl (more_rules p.item.rules (r ∷ [])) s (subst (λ y. has_class y s ≡ true) (old k d) h))
 
 policy_pushed : (w : Up) (p : Policy) → PoliciesStay w (with_new_policy w p)
 policy_pushed w p = record {
   kinds = λ k l. ap (λ y. y.kind) (push_within w.policies p no_policy k l);
-  rules = λ k l s h. subst (λ y. has_rule y.rules s ≡ true) (sym (push_within w.policies p no_policy k l)) h;
+  classes = λ k l s h. subst (λ y. has_class y s ≡ true) (sym (push_within w.policies p no_policy k l)) h;
 }
 
 pub aside_policies : (w u : Up) → Aside w u → PoliciesStay w u

@@ -108,10 +108,10 @@ lost_after p ss i d h = let (s, m, e) = copy_from_has (after p ss) i h in (
 
 -- ---- what a vault keeps has the last
 
-pub last_kept : (rules : List Rule) (needs : Ident → Bool) (older : List Snapshot) (s : Snapshot) → keeps rules needs s [] ≡ true → has (retained rules needs (older ++ s ∷ [])) s.ident ≡ true
-last_kept rules needs older s k =
-    let (front, t, e) = begins rules needs older (s ∷ []) in
-    let f : retained rules needs (older ++ s ∷ []) ≡ front ++ s ∷ [] = e ∙ ap (λ b. front ++ cond b (s ∷ []) []) k in
+pub last_kept : (rules : List Rule) (class : Snapshot → Option (List ℕ)) (needs : Ident → Bool) (older : List Snapshot) (s : Snapshot) → keeps rules class needs s [] ≡ true → has (retained rules class needs (older ++ s ∷ [])) s.ident ≡ true
+last_kept rules class needs older s k =
+    let (front, t, e) = begins rules class needs older (s ∷ []) in
+    let f : retained rules class needs (older ++ s ∷ []) ≡ front ++ s ∷ [] = e ∙ ap (λ b. front ++ cond b (s ∷ []) []) k in
     subst (λ ss. has ss s.ident ≡ true) (sym f) (has_from_copy (front ++ s ∷ []) s.ident (s, among_right front (s ∷ []) s (inl refl), refl))
 
 pub from_base : (base : Option Ident) (ss : List Snapshot) (s : Snapshot) → Among (after_base base ss) s → Among ss s

@@ -3,8 +3,9 @@ use Rattle.std.proofs.Common.{◌≡◌, ◌⊎◌, ◌<◌, ◌≤◌, ℕ, Boo
 use Rattle.std.proofs.lemmas.Bool.{and_left, and_right, not_from_true, both_ways, false_from_ne_true}
 use Rattle.sm_base.specs.declared.numbers.Ident.{Ident}
 use Rattle.sm_model.specs.declared.event.Event.{Event}
+use Rattle.sm_defs.specs.Classes.{class_of}
 use Rattle.sm_defs.specs.Words.{Among, same_ident, up_to}
-use Rattle.sm_defs.specs.Volume.{Volume, Snapshot, no_volume, has, without}
+use Rattle.sm_defs.specs.Volume.{Volume, Snapshot, no_volume, has, without, past}
 use Rattle.sm_defs.specs.Relationship.{Policy, is_mirror}
 use Rattle.sm_defs.specs.Retention.{retained}
 use Rattle.sm_defs.specs.Needed.{needed, holder}
@@ -12,8 +13,8 @@ use Rattle.sm_defs.specs.World.{Up, volume_at, with_volume}
 use Rattle.sm_model.specs.World.{Deed}
 use Rattle.sm_model.specs.Answers.{Reached, Told}
 use Rattle.sm_model.specs.Answer.{answer}
-use Rattle.sm_model.specs.OfTransfers.{past, first_held, Holding}
-use Rattle.sm_model.specs.Opened.{opened, reopened}
+use Rattle.sm_model.specs.OfTransfers.{first_held, Holding}
+use Rattle.sm_model.specs.Opened.{opened}
 use Rattle.sm_model.specs.Running.{Running, IsRunning}
 use Rattle.sm_model.specs.Steps.{Effect, reverted, arrived, published}
 use Rattle.sm_model.specs.Due.{StepKind, revert, finish, settle, prepare, prune, publish, checkpoint, ship, IsEffect, IsStep, by_transfer, by_tidy, is_tidied, goes, held_reason}
@@ -27,6 +28,7 @@ use Rattle.laws_cases.proofs.Answers.Changes.{IsChange, IsAnswer, Is}
 use Rattle.laws_cases.proofs.Answers.OfAnswer.{of_answer}
 use Rattle.laws_cases.proofs.Answers.Deeds.{IsAnswered, from_answer, deed_cases}
 use Rattle.laws_cases.proofs.Needed.Needs.{keeps_set, push_within, beyond, within_or_beyond, has_within, mapped_at, mapped_length, without_keeps, split_at, no_holder, none_held}
+use Rattle.sm_defs.specs.Operations as operations
 
 same_volumes : (w u : Up) → u.volumes ≡ w.volumes → KeepsNeeded w u
 same_volumes w u e v i h n = subst (λ vs. has (Rattle.std.specs.Prelude.slice_index_or vs v no_volume).snapshots i ≡ true) (sym e) h
@@ -77,10 +79,10 @@ reverted_keeps w d b ss true e i h n = let (s, m, q) = copy_from_has ss i h in g
     go s q (inr k) = absurd (both_ways (needed w d i) (subst (λ y. needed w d y ≡ false) q (no_holder w d s.ident (none_held (holder w d) (past b ss) (reason_none _ e) s k))) n)
 
 published_keeps : (w : Up) (d : ℕ) (p : Policy) (ss : List Snapshot) (a : Snapshot) (m : Bool) → (i : Ident) → has ss i ≡ true → needed w d i ≡ true →
-    has (cond m (ss ++ a ∷ []) (retained p.rules (needed w d) (ss ++ a ∷ []))) i ≡ true
+    has (cond m (ss ++ a ∷ []) (retained p.rules (class_of p) (needed w d) (ss ++ a ∷ []))) i ≡ true
 published_keeps w d p ss a true i h n = let (s, m, q) = copy_from_has ss i h in has_from_copy _ i (s, among_left ss (a ∷ []) s m, q)
 published_keeps w d p ss a false i h n = let (s, m, q) = copy_from_has ss i h in
-    has_from_copy _ i (s, keeps_needed p.rules (needed w d) (ss ++ a ∷ []) s (among_left ss (a ∷ []) s m) (subst (λ y. needed w d y ≡ true) (sym q) n), q)
+    has_from_copy _ i (s, keeps_needed p.rules (class_of p) (needed w d) (ss ++ a ∷ []) s (among_left ss (a ∷ []) s m) (subst (λ y. needed w d y ≡ true) (sym q) n), q)
 
 abbrev Keeps : Up → Effect → Type 0
 Keeps w e = KeepsNeeded w e.world
@@ -116,11 +118,11 @@ deeds_keep e d i = go (deed_cases e d i)
     go (inr a) = of_kind d.old d.new e a.tells a.is
 
 pub restarts_keep : (w : Up) (v : ℕ) (i : Ident) → has (volume_at w v).snapshots i ≡ true → has (volume_at (opened w) v).snapshots i ≡ true
-restarts_keep w v i h = subst (λ u. has u.snapshots i ≡ true) (sym (mapped_at reopened w.volumes no_volume v (has_within w v i h))) h
+restarts_keep w v i h = subst (λ u. has u.snapshots i ≡ true) (sym (mapped_at operations.opened w.volumes no_volume v (has_within w v i h))) h
 
 pub restarts_keep_snapshots : (w : Up) (v : ℕ) → (volume_at (opened w) v).snapshots ≡ (volume_at w v).snapshots
 restarts_keep_snapshots w v = go (within_or_beyond v (length w.volumes))
   where
     go : (v < length w.volumes) ⊎ (length w.volumes ≤ v) → (volume_at (opened w) v).snapshots ≡ (volume_at w v).snapshots
-    go (inl h) = ap (λ u. u.snapshots) (mapped_at reopened w.volumes no_volume v h)
-    go (inr h) = ap (λ u. u.snapshots) (beyond (map reopened w.volumes) no_volume v (rw (mapped_length reopened w.volumes) h) ∙ sym (beyond w.volumes no_volume v h))
+    go (inl h) = ap (λ u. u.snapshots) (mapped_at operations.opened w.volumes no_volume v h)
+    go (inr h) = ap (λ u. u.snapshots) (beyond (map operations.opened w.volumes) no_volume v (rw (mapped_length operations.opened w.volumes) h) ∙ sym (beyond w.volumes no_volume v h))

@@ -7,11 +7,11 @@ use Rattle.sm_defs.specs.Image.{Image, tags}
 use Rattle.sm_defs.specs.Missing.{insert_once, ascending, is_missing_tag, mirror_cost, first_tag, rest, is_missing_at, missing_from, vault_cost}
 use Rattle.sm_defs.specs.Volume.{Snapshot}
 use Rattle.sm_defs.specs.Relationship.{is_mirror}
-use Rattle.sm_model.specs.OfTransfers.{landed_prefix}
 use Rattle.sm_model.specs.Running.{Running}
 use Rattle.sm_model.specs.Steps.{bases, cost}
 use Rattle.laws_cases.proofs.Lists.Thinned.{filter_thins, thinned_shorter}
 use Rattle.laws_cases.proofs.Steps.Shipping.{prefix_is, prefix_near}
+use Rattle.sm_defs.specs.Progress.{landed_prefix}
 
 insert_longer : (t : ℕ) (ts : List ℕ) → length (insert_once t ts) ≤ suc (length ts)
 insert_longer t [] = omega arith

@@ -3,6 +3,7 @@ use Rattle.std.proofs.Common.{◌≡◌, ◌≢◌, ℕ, zero, suc, Bool, true, 
 use Rattle.std.specs.Prelude.{slice_get}
 use Rattle.std.proofs.lemmas.Option.{same_Some}
 use Rattle.sm_base.specs.declared.numbers.Ident.{Ident}
+use Rattle.sm_defs.specs.Classes.{class_of}
 use Rattle.sm_defs.specs.Words.{Among, up_to, same_ident}
 use Rattle.sm_defs.specs.Image.{Block, Image, bytes_of, SameContents}
 use Rattle.sm_defs.specs.Volume.{Volume, Snapshot, has, image_of, free_tags}
@@ -34,9 +35,9 @@ reverted_thins p i ss = go (is_mirror p.kind)
 pub published_thins : (w : Up) (x : Running) (s : Snapshot) → Thinned (list_published w x s) (x.destination.snapshots ++ s ∷ [])
 published_thins w x s = go (is_mirror x.policy.kind)
   where
-    go : (m : Bool) → Thinned (cond m (x.destination.snapshots ++ s ∷ []) (retained x.policy.rules (needed w x.relation.destination) (x.destination.snapshots ++ s ∷ []))) (x.destination.snapshots ++ s ∷ [])
+    go : (m : Bool) → Thinned (cond m (x.destination.snapshots ++ s ∷ []) (retained x.policy.rules (class_of x.policy) (needed w x.relation.destination) (x.destination.snapshots ++ s ∷ []))) (x.destination.snapshots ++ s ∷ [])
     go true = all_kept _
-    go false = thins x.policy.rules (needed w x.relation.destination) _
+    go false = thins x.policy.rules (class_of x.policy) (needed w x.relation.destination) _
 
 pub in_snapshot : (v : Volume) (s : Snapshot) (p : ℕ) (b : Block) → Among v.snapshots s → slice_get s.image p ≡ Some b → Stored v p b
 in_snapshot v s p b m e = (s.image, inr (inr (among_map image_of v.snapshots s m)), e)

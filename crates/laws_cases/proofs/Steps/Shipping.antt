@@ -3,17 +3,17 @@ use Rattle.std.proofs.Common.{◌≡◌, ◌≢◌, ◌⊎◌, ◌<◌, ◌≤�
 use Rattle.std.specs.List.{list_all}
 use Rattle.std.proofs.lemmas.Bool.{and_from, and_cases, not_from_false, eqb-false, lt-ltb, both_ways, cases_eq, false_from_ne_true}
 use Rattle.sm_base.specs.declared.limits.TheConstants.{WINDOW}
-use Rattle.sm_defs.specs.Words.{Among}
+use Rattle.sm_defs.specs.Words.{Among, Ascends}
 use Rattle.sm_defs.specs.Image.{stands}
 use Rattle.sm_defs.specs.Volume.{numbers}
-use Rattle.sm_model.specs.LegsFit.{Ascends, InWindow}
-use Rattle.sm_model.specs.OfTransfers.{prefix_from, landed_prefix}
+use Rattle.sm_model.specs.LegsFit.{InWindow}
 use Rattle.sm_model.specs.Running.{Running}
 use Rattle.sm_model.specs.Steps.{may_ship, all_landed, at_checkpoint}
 use Rattle.sm_model.specs.Choice.{shippable}
 use Rattle.laws_transfer.proofs.Lists.{stands_among, filter_among}
 use Rattle.laws_transfer.proofs.Asc.{among_each}
 use Rattle.laws_cases.proofs.Needed.Needs.{within_or_beyond}
+use Rattle.sm_defs.specs.Progress.{prefix_from, landed_prefix}
 
 -- ---- numbers
 
