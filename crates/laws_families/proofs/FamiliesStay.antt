@@ -22,13 +22,14 @@ use Rattle.sm_model.specs.FamiliesAgree.{FamiliesAgree}
 use Rattle.sm_model.specs.FamiliesStand.{IsFamily}
 use Rattle.sm_model.specs.Sound.{SoundUp}
 use Rattle.laws_transfer.proofs.Lists.{among_append, from_map}
+use Rattle.laws_transfer.proofs.Kept.{filter_thins}
 use Rattle.laws_cases.proofs.Answers.Walk.{going}
 use Rattle.laws_cases.proofs.Lists.Members.{among_get_or}
 use Rattle.laws_cases.proofs.Answers.Changes as answers
 use Rattle.laws_cases.proofs.Answers.Changes.{Is, IsChange, IsAnswer}
 use Rattle.laws_cases.proofs.Answers.OfAnswer.{of_answer}
 use Rattle.laws_cases.proofs.Answers.Deeds.{IsAnswered, deed_cases, from_answer}
-use Rattle.laws_cases.proofs.Lists.Thinned.{all_kept, filter_thins, thinned_among}
+use Rattle.laws_cases.proofs.Lists.Thinned.{all_kept, thinned_among}
 use Rattle.laws_cases.proofs.Lists.Frames.{each_set, each_push, each_mapped, stands_set, stands_push}
 use Rattle.laws_copies.proofs.Fresh.{client_fresh}
 use Rattle.laws_cases.proofs.Steps.Parties.{relation_stands, source_stands, destination_stands}

@@ -23,9 +23,10 @@ use Rattle.sm_model.specs.Due.{StepKind, IsEffect, IsStep, by_transfer, by_tidy,
 use Rattle.sm_model.specs.LegalRun.{IsDeed}
 use Rattle.sm_model.specs.FamiliesAgree.{FamiliesAgree}
 use Rattle.sm_model.specs.Sound.{SoundUp}
+use Rattle.laws_transfer.proofs.Kept.{filter_thins}
 use Rattle.laws_cases.proofs.Answers.Walk.{going}
 use Rattle.laws_cases.proofs.Lists.Members.{among_set, among_get_or}
-use Rattle.laws_cases.proofs.Lists.Thinned.{filter_thins, thinned_among}
+use Rattle.laws_cases.proofs.Lists.Thinned.{thinned_among}
 use Rattle.laws_cases.proofs.Answers.OfAnswer.{of_answer}
 use Rattle.laws_cases.proofs.Answers.Deeds.{of_done}
 use Rattle.laws_cases.proofs.Needed.Leaving.{same_member}

@@ -20,6 +20,7 @@ use Rattle.laws_run.specs.Listed.{IsListed}
 use Rattle.laws_transfer.proofs.Asc.{among_each}
 use Rattle.laws_cases.proofs.Answers.Deeds.{ok_is_no_refusal}
 use Rattle.laws_run.proofs.Listing.{refusal_listed}
+use Rattle.laws_cases.proofs.Answers.Refused.{same_refusal}
 
 -- ---- answers
 
@@ -75,9 +76,6 @@ no_fault_listed e disk count h = true≢false (listed_tells_none e (refusals.Dis
 no_down_listed : (e : Event) (disk : DiskNo) → ¬ IsListed e (refusals.Down disk)
 unfolding tells_disk
 no_down_listed e disk h = true≢false (listed_tells_none e (refusals.Down disk) h)
-
-same_refusal : (r s : Refusal) → replies.Refused r ≡ replies.Refused s → r ≡ s
-same_refusal r s e = cc
 
 pub refused_faultless : (w : Up) (e : Event) (reply : Reply) (r : Refusal) → answer w e ≡ Some (Err r) → reply ≡ replies.Refused r → IsFaultless reply
 refused_faultless w e reply r i k =
