@@ -20,6 +20,7 @@ use Rattle.laws_crossed.proofs.CrossedParts.{Differ, dest_key, to_apart, crossed
 use Rattle.laws_crossed.proofs.CrossedKeys.{keys_mapped}
 use Rattle.laws_crossed.proofs.CrossedSteps.{steps_keep_crossed}
 use Rattle.laws_crossed.proofs.CrossedAnswers.{of_move}
+use Rattle.sm_defs.specs.Operations as operations
 use Rattle.laws_cases.proofs.Answers.Opening.{Reopened, reopened_at}
 
 pub deeds_keep_crossed : (e : Event) (d : Deed) → SoundUp d.old → IsDeed e d → Crossed d.new

@@ -2,7 +2,6 @@
 use Rattle.std.proofs.Common.{List, [], sym, ◌∙◌, true≢false}
 use Rattle.std.proofs.lemmas.Bool.{false_from_ne_true}
 use Rattle.sm_model.specs.declared.reply.Entry.{Entry}
-use Rattle.sm_defs.specs.World.{Up}
 use Rattle.sm_defs.specs.Needed.{needed}
 use Rattle.sm_model.specs.World.{up}
 use Rattle.sm_model.specs.Sound.{SoundUp}

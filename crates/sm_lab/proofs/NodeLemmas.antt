@@ -7,6 +7,7 @@ use Rattle.std.specs.Str.{bytes_eq}
 use Rattle.sm_base.specs.declared.faults.NoMemory.{NoMemory}
 use Rattle.sm_base.specs.declared.numbers.DiskNo.{DiskNo}
 use Rattle.sm_base.specs.declared.numbers.VolNo.{VolNo}
+use Rattle.sm_base.specs.declared.numbers.RelNo.{RelNo}
 use Rattle.sm_base.specs.declared.numbers.Kind.{Kind}
 use Rattle.sm_base.specs.declared.refusal.Refusal.{Refusal}
 use Rattle.sm_base.specs.declared.refusal.Refusal.TheVariants as refusals
@@ -22,7 +23,7 @@ use Rattle.sm_defs.specs.Volume as model
 use Rattle.sm_defs.specs.Relationship.{Relationship}
 use Rattle.sm_defs.specs.World.{Up, with_volume, volume_at}
 use Rattle.sm_model.specs.Answers.{Answer, and_then, refused_if, some_or, volume_named, volno, told, shows}
-use Rattle.sm_model.specs.InRange.{IsThere}
+use Rattle.sm_model.specs.InRange.{HasRelation}
 use Rattle.sm_model.specs.OfVolumes as volumes
 use Rattle.sm_defs.specs.Operations as operations
 use Rattle.sm_lab.specs.Reporting.{IsServed}
@@ -289,19 +290,21 @@ read_in vs disks w path name place at r v view e is h =
     let here : volume_of v ≡ volume_at w at = ap volume_of is ∙ volume_in vs disks w at v view (omega arith) in
     read_at w path name place at r (sym e) (subst (λ (m : model.Volume). IfOk r (λ reply. IsShown (read_test m name place) reply)) here h)
 
--- where no relationship stands, an event that is served is one of the seven
-pub is_one : (w : Up) (e : Event) → IsServed e → IsThere w e → w.relations ≡ [] → ((path : List ℕ) (disk : DiskNo) (kind : Kind) (logical physical : ℕ) → ¬ (e ≡ events.CreateVolume path disk kind logical physical)) →
+pub none_related : (w : Up) (number : ℕ) → w.relations ≡ [] → ¬ HasRelation w number
+none_related w number none (r, m, same) = subst (λ (rs : List Relationship). Among rs r) none m
+
+-- an event that is served is one of the eight
+pub is_one : (e : Event) → IsServed e → ((path : List ℕ) (disk : DiskNo) (kind : Kind) (logical physical : ℕ) → ¬ (e ≡ events.CreateVolume path disk kind logical physical)) →
     ((path : List ℕ) (block fill : ℕ) → ¬ (e ≡ events.Write path block fill)) → ((path name : List ℕ) (label : Option (List ℕ)) → ¬ (e ≡ events.Snap path name label)) →
     ((path : List ℕ) (name : Option (List ℕ)) (block : ℕ) → ¬ (e ≡ events.Read path name block)) → ¬ (e ≡ events.Head) → ((volume : VolNo) → ¬ (e ≡ events.VolumeLine volume)) →
-    ((volume : VolNo) (place : Option ℕ) → ¬ (e ≡ events.Digest volume place)) → ⊥
-unfolding IsThere
-is_one w (events.CreateVolume path disk kind logical physical) y there none no_create no_write no_snap no_read no_head no_line no_digest = no_create path disk kind logical physical refl
-is_one w (events.Write path block fill) y there none no_create no_write no_snap no_read no_head no_line no_digest = no_write path block fill refl
-is_one w (events.Snap path name label) y there none no_create no_write no_snap no_read no_head no_line no_digest = no_snap path name label refl
-is_one w (events.Read path name block) y there none no_create no_write no_snap no_read no_head no_line no_digest = no_read path name block refl
-is_one w events.Head y there none no_create no_write no_snap no_read no_head no_line no_digest = no_head refl
-is_one w (events.VolumeLine volume) y there none no_create no_write no_snap no_read no_head no_line no_digest = no_line volume refl
-is_one w (events.Digest volume place) y there none no_create no_write no_snap no_read no_head no_line no_digest = no_digest volume place refl
-is_one w (events.RelationLine relation) y (r, m, same) none no_create no_write no_snap no_read no_head no_line no_digest = subst (λ (rs : List Relationship). Among rs r) none m
-is_one w e (inl c) there none no_create no_write no_snap no_read no_head no_line no_digest = absurd c
-is_one w e (inr l) there none no_create no_write no_snap no_read no_head no_line no_digest = absurd l
+    ((volume : VolNo) (place : Option ℕ) → ¬ (e ≡ events.Digest volume place)) → ((relation : RelNo) → ¬ (e ≡ events.RelationLine relation)) → ⊥
+is_one (events.CreateVolume path disk kind logical physical) y no_create no_write no_snap no_read no_head no_line no_digest no_relation = no_create path disk kind logical physical refl
+is_one (events.Write path block fill) y no_create no_write no_snap no_read no_head no_line no_digest no_relation = no_write path block fill refl
+is_one (events.Snap path name label) y no_create no_write no_snap no_read no_head no_line no_digest no_relation = no_snap path name label refl
+is_one (events.Read path name block) y no_create no_write no_snap no_read no_head no_line no_digest no_relation = no_read path name block refl
+is_one events.Head y no_create no_write no_snap no_read no_head no_line no_digest no_relation = no_head refl
+is_one (events.VolumeLine volume) y no_create no_write no_snap no_read no_head no_line no_digest no_relation = no_line volume refl
+is_one (events.Digest volume place) y no_create no_write no_snap no_read no_head no_line no_digest no_relation = no_digest volume place refl
+is_one (events.RelationLine relation) y no_create no_write no_snap no_read no_head no_line no_digest no_relation = no_relation relation refl
+is_one e (inl c) no_create no_write no_snap no_read no_head no_line no_digest no_relation = absurd c
+is_one e (inr l) no_create no_write no_snap no_read no_head no_line no_digest no_relation = absurd l

@@ -1,5 +1,5 @@
 -- Laws on reads of blocks and of snapshots.
-use Rattle.std.proofs.Common.{◌≡◌, ℕ, zero, suc, ◌<◌, ◌==◌, ◌&&◌, Bool, true, false, cond, nat_le, List, [], ◌∷◌, ◌++◌, length, map, get_or, reverse, refl, sym, ap, ◌∙◌, arith, Option, Some, None, Err, Result, Box, IfOk, subst}
+use Rattle.std.proofs.Common.{◌≡◌, ℕ, zero, suc, ◌<◌, ◌==◌, Bool, true, false, cond, nat_le, List, [], ◌∷◌, ◌++◌, length, map, get_or, reverse, refl, sym, ap, ◌∙◌, arith, Option, Some, None, Err, Result, Box, IfOk, subst}
 use Rattle.std.proofs.lemmas.Bool.{and_parts}
 use Rattle.std.specs.Global.{Global}
 use Rattle.std.proofs.lemmas.Bool.Decides.{nat_tests}

@@ -1,5 +1,5 @@
 -- The report's events, as they are put together and done.
-use Rattle.std.proofs.Common.{◌≡◌, ℕ, zero, suc, ◌+◌, ◌-◌, ◌<◌, ◌≤◌, List, [], ◌∷◌, ◌++◌, All, map, length, drop, get_or, append_assoc, append-nil, length-append, add-one, refl, sym, ap, subst, ◌∙◌, inl, inr, arith, Option, Some, None}
+use Rattle.std.proofs.Common.{◌≡◌, ℕ, zero, suc, ◌+◌, ◌-◌, ◌<◌, ◌≤◌, List, [], ◌∷◌, ◌++◌, All, map, length, drop, get_or, append_assoc, length-append, add-one, refl, sym, subst, ◌∙◌, inl, inr, arith, Option, Some, None}
 use Rattle.std.proofs.lemmas.List.Elements.{All-nil, All-cons, All-append, All-map, All-weaker, All-get_or}
 use Rattle.std.proofs.Math.Seq.{drop-cons}
 use Rattle.sm_model.specs.declared.event.Event.{Event}

@@ -1,7 +1,6 @@
 -- Laws on the numbers of an image's blocks.
 use Rattle.std.proofs.Common.{◌≡◌, ℕ, zero, suc, ◌+◌, ◌<◌, ◌≤◌, true, List, [], ◌∷◌, ◌++◌, length, get_or, take, drop, refl, ap, ◌∙◌, arith, add-one, nat_le}
 use borrow.Author.Tests.{leb-true}
-use Rattle.std.proofs.lemmas.Bool.Decides.{nat_tests}
 use Rattle.std.specs.List.{list_all}
 use Rattle.sm_lab.specs.Slots.{slot_tags, counts}
 use Rattle.sm_lab.specs.declared.slot.Slot.{Slot}

@@ -1,5 +1,5 @@
 -- Laws on a volume's fields.
-use Rattle.std.proofs.Common.{◌≡◌, ℕ, zero, suc, ◌+◌, ◌*◌, ◌<◌, ◌≤◌, ◌^◌, ◌==◌, ◌&&◌, ◌||◌, append_assoc, append-nil, Bool, true, false, cond, nat_lt, nat_le, List, [], ◌∷◌, ◌++◌, length, map, get_or, slice_set, flat_map, replicate, refl, sym, ap, ◌∙◌, arith, Option, Some, None, position, count_by, Ok, Err, vec_len}
+use Rattle.std.proofs.Common.{◌≡◌, ℕ, zero, suc, ◌+◌, ◌*◌, ◌<◌, ◌≤◌, ◌^◌, ◌==◌, ◌||◌, append_assoc, append-nil, Bool, true, false, cond, nat_lt, nat_le, List, [], ◌∷◌, ◌++◌, length, map, get_or, slice_set, flat_map, replicate, refl, sym, ap, ◌∙◌, arith, Option, Some, None, position, count_by, Ok, Err, vec_len}
 use Rattle.std.proofs.lemmas.Bool.{and_parts}
 use Rattle.std.proofs.lemmas.Bool.Decides.{nat_tests}
 use Rattle.std.proofs.lemmas.List.{length-append, map-set}
