@@ -1,5 +1,7 @@
 -- Laws on free numbers and on how many are used.
-use Rattle.std.proofs.Common.{◌≡◌, ℕ, zero, suc, ◌+◌, ◌-◌, ◌<◌, ◌≤◌, ◌==◌, ◌||◌, ◌&&◌, Bool, true, false, not, cond, nat_le, List, [], ◌∷◌, length, map, get_or, slice_set, refl, sym, ap, ◌∙◌, arith, filter, count_by}
+use Rattle.std.proofs.Common.{◌≡◌, ℕ, zero, suc, ◌+◌, ◌-◌, ◌<◌, ◌≤◌, ◌==◌, ◌||◌, Bool, true, false, not, cond, nat_le, List, [], ◌∷◌, length, map, get_or, slice_set, refl, sym, ap, ◌∙◌, arith, filter, count_by}
+use borrow.Author.Tests.{leb-true}
+use Rattle.std.proofs.lemmas.Bool.{and_parts}
 use Rattle.std.proofs.lemmas.Bool.Decides.{nat_tests}
 use Rattle.std.proofs.lemmas.List.Sums.{sum_by-cons, count_by-le-length}
 use Rattle.std.specs.List.{list_all, prefix_len}
@@ -85,13 +87,6 @@ distinct_if : (b : Bool) (d : ℕ) → cond b d (1 + d) ≡ d + cond (not b) 1 0
 distinct_if true d = omega arith
 distinct_if false d = omega arith
 
-both : (a b : Bool) → (a && b) ≡ true → (a ≡ true) × (b ≡ true)
-both true b h = (refl, h)
-both false b h = absurd (cc)
-
-fits_nat : (t n : ℕ) → nat_le t n ≡ true → t ≤ n
-fits_nat t n h = grind (arith, nat_tests)
-
 one_more_used : (n t : ℕ) (ts : List ℕ) (z : Bool) → (t == 0) ≡ z → t ≤ n → distinct ts ≡ count_by is_used (counts n ts) → cond (z || stands t ts) (distinct ts) (1 + distinct ts) ≡ count_by is_used (counts n (t ∷ ts))
 one_more_used n t ts true e fits h = let hole : t ≡ 0 = grind (arith, nat_tests) in rw (hole, hole_counts n ts) h
 one_more_used n t ts false e fits h =
@@ -109,5 +104,5 @@ one_more_used n t ts false e fits h =
 pub distinct_counted : (n : ℕ) (ts : List ℕ) → list_all (λ t. nat_le t n) ts ≡ true → distinct ts ≡ count_by is_used (counts n ts)
 distinct_counted n [] h = sym (zeros 1 n)
 distinct_counted n (t ∷ ts) h =
-    let p = both (nat_le t n) (list_all (λ u. nat_le u n) ts) h in
-    one_more_used n t ts (t == 0) refl (fits_nat t n p.0) (distinct_counted n ts p.1)
+    let p = and_parts (nat_le t n) (list_all (λ u. nat_le u n) ts) h in
+    one_more_used n t ts (t == 0) refl (leb-true t n p.0) (distinct_counted n ts p.1)

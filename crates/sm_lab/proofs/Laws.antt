@@ -2,27 +2,19 @@
 use Rattle.std.proofs.Common.{List, [], sym, ◌∙◌, true≢false}
 use Rattle.std.proofs.lemmas.Bool.{false_from_ne_true}
 use Rattle.sm_model.specs.declared.reply.Entry.{Entry}
-use Rattle.sm_defs.specs.World.{Up}
 use Rattle.sm_defs.specs.Needed.{needed}
 use Rattle.sm_model.specs.World.{up}
 use Rattle.sm_model.specs.Sound.{SoundUp}
 use Rattle.laws_drops.proofs.Runs.{runs_keep_needed}
-use Rattle.laws_run.specs.Early.{IsBare}
-use Rattle.laws_run.proofs.Empty.{empty_sound, empty_bare}
-use Rattle.laws_run.proofs.Soundness.{is_bare, both}
-use Rattle.laws_run.proofs.Soundness.{run_keeps as early_run_keeps}
+use Rattle.laws_run.proofs.Empty.{empty_sound}
 use Rattle.laws_run.proofs.AnyRuns.{run_keeps}
 use Rattle.laws_run.proofs.LastWorld.{runs_end_with_origins}
 use Rattle.laws_run.proofs.RunLaws.{runs_drop_by_rule}
 use Rattle.sm_lab.specs.Node.{start, plain_disks}
-use Rattle.sm_lab.specs.History.{Reaches, EachWorld, EachDeed, ShowsOrigins, DropsAsNamed, KeepsNeeded}
+use Rattle.sm_lab.specs.History.{EachWorld, EachDeed, ShowsOrigins, DropsAsNamed, KeepsNeeded}
 
 start_sound : SoundUp start
 start_sound = empty_sound plain_disks
-
--- no relationship and no policy stands in the world
-pub bare : (history : List Entry) (world : Up) → Reaches history world → IsBare world
-bare history world r = is_bare (early_run_keeps (up start) (up world) history [] r.deeds r.early r.legal.runs (both start_sound (empty_bare plain_disks)))
 
 pub sound : (history : List Entry) → EachWorld (λ deeds world. SoundUp world) history
 sound history front back deeds world is run = run_keeps (up start) (up world) front [] deeds run start_sound

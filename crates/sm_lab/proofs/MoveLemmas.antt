@@ -1,5 +1,6 @@
 -- Laws on counts where numbers come and go.
-use Rattle.std.proofs.Common.{◌≡◌, ℕ, zero, suc, ◌+◌, ◌<◌, ◌==◌, ◌&&◌, Bool, true, false, cond, List, [], ◌∷◌, ◌++◌, length, get_or, slice_set, take, drop, refl, arith}
+use Rattle.std.proofs.Common.{◌≡◌, ℕ, zero, suc, ◌+◌, ◌<◌, ◌==◌, Bool, true, false, cond, List, [], ◌∷◌, ◌++◌, length, get_or, slice_set, take, drop, refl, arith}
+use Rattle.std.proofs.lemmas.Bool.{and_parts}
 use Rattle.std.specs.List.{list_all}
 use Rattle.sm_lab.specs.Slots.{times, counts}
 use Rattle.sm_lab.proofs.CountLemmas.{times-append, same_counts}
@@ -84,27 +85,23 @@ placed n k v xs ys h = same_counts n (v ∷ (others k xs ++ ys)) (slice_set xs k
     omega arith)
 
 -- tests of all members
-both : (a b : Bool) → (a && b) ≡ true → (a ≡ true) × (b ≡ true)
-both true b h = (refl, h)
-both false b h = absurd (cc)
-
 pub all_at : (p : ℕ → Bool) (xs : List ℕ) (k : ℕ) → k < length xs → list_all p xs ≡ true → p (get_or xs k 0) ≡ true
 all_at p [] k h a = absurd (omega arith)
-all_at p (x ∷ xs) zero h a = (both (p x) (list_all p xs) a).0
-all_at p (x ∷ xs) (suc k) h a = all_at p xs k (omega arith) (both (p x) (list_all p xs) a).1
+all_at p (x ∷ xs) zero h a = (and_parts (p x) (list_all p xs) a).0
+all_at p (x ∷ xs) (suc k) h a = all_at p xs k (omega arith) (and_parts (p x) (list_all p xs) a).1
 
 pub all_set : (p : ℕ → Bool) (xs : List ℕ) (k v : ℕ) → list_all p xs ≡ true → p v ≡ true → list_all p (slice_set xs k v) ≡ true
 all_set p [] k v a b = a
-all_set p (x ∷ xs) zero v a b = rw b (both (p x) (list_all p xs) a).1
-all_set p (x ∷ xs) (suc k) v a b = let q = both (p x) (list_all p xs) a in rw q.0 (all_set p xs k v q.1 b)
+all_set p (x ∷ xs) zero v a b = rw b (and_parts (p x) (list_all p xs) a).1
+all_set p (x ∷ xs) (suc k) v a b = let q = and_parts (p x) (list_all p xs) a in rw q.0 (all_set p xs k v q.1 b)
 
 pub all_both : (p : ℕ → Bool) (xs ys : List ℕ) → list_all p xs ≡ true → list_all p ys ≡ true → list_all p (xs ++ ys) ≡ true
 all_both p [] ys a b = b
-all_both p (x ∷ xs) ys a b = let q = both (p x) (list_all p xs) a in rw q.0 (all_both p xs ys q.1 b)
+all_both p (x ∷ xs) ys a b = let q = and_parts (p x) (list_all p xs) a in rw q.0 (all_both p xs ys q.1 b)
 
 pub all_split : (p : ℕ → Bool) (xs ys : List ℕ) → list_all p (xs ++ ys) ≡ true → (list_all p xs ≡ true) × (list_all p ys ≡ true)
 all_split p [] ys a = (refl, a)
 all_split p (x ∷ xs) ys a =
-    let q = both (p x) (list_all p (xs ++ ys)) a in
+    let q = and_parts (p x) (list_all p (xs ++ ys)) a in
     let r = all_split p xs ys q.1 in
     (rw (q.0, r.0) refl, r.1)

@@ -1,5 +1,5 @@
 -- Laws on the node's volumes and its answers.
-use Rattle.std.proofs.Common.{◌≡◌, ℕ, zero, suc, ◌+◌, ◌<◌, ◌≤◌, ◌==◌, ◌||◌, Bool, true, false, not, cond, nat_lt, nat_le, List, [], ◌∷◌, length, map, get_or, slice_set, slice_get, position, refl, sym, ap, subst, ◌∙◌, arith, Option, Some, None, Ok, Err, Result, IfOk, OnErr}
+use Rattle.std.proofs.Common.{◌≡◌, ℕ, zero, suc, ◌+◌, ◌<◌, ◌≤◌, ◌==◌, ◌||◌, Bool, true, false, not, cond, nat_lt, nat_le, List, [], ◌∷◌, length, map, get_or, slice_set, slice_get, position, refl, sym, ap, subst, ◌∙◌, inl, inr, arith, Option, Some, None, Ok, Err, Result, IfOk, OnErr}
 use Rattle.std.proofs.lemmas.List.{length-map, map-set}
 use Rattle.std.proofs.lemmas.Bool.Decides.{nat_tests}
 use Rattle.std.specs.List.{list_any, prefix_len}
@@ -7,6 +7,7 @@ use Rattle.std.specs.Str.{bytes_eq}
 use Rattle.sm_base.specs.declared.faults.NoMemory.{NoMemory}
 use Rattle.sm_base.specs.declared.numbers.DiskNo.{DiskNo}
 use Rattle.sm_base.specs.declared.numbers.VolNo.{VolNo}
+use Rattle.sm_base.specs.declared.numbers.RelNo.{RelNo}
 use Rattle.sm_base.specs.declared.numbers.Kind.{Kind}
 use Rattle.sm_base.specs.declared.refusal.Refusal.{Refusal}
 use Rattle.sm_base.specs.declared.refusal.Refusal.TheVariants as refusals
@@ -17,13 +18,15 @@ use Rattle.sm_model.specs.declared.reply.Reply.{Reply}
 use Rattle.sm_model.specs.declared.reply.Reply.TheVariants as replies
 use Rattle.sm_defs.specs.Image.{Image, full_block}
 use Rattle.sm_base.specs.declared.limits.TheConstants.{MOST_VOLUMES, MOST_SNAPSHOTS, LAST_NUMBER}
-use Rattle.sm_defs.specs.Words.{Found, found, next_place}
+use Rattle.sm_defs.specs.Words.{Among, Found, found, next_place}
 use Rattle.sm_defs.specs.Volume as model
+use Rattle.sm_defs.specs.Relationship.{Relationship}
 use Rattle.sm_defs.specs.World.{Up, with_volume, volume_at}
 use Rattle.sm_model.specs.Answers.{Answer, and_then, refused_if, some_or, volume_named, volno, told, shows}
+use Rattle.sm_model.specs.InRange.{HasRelation}
 use Rattle.sm_model.specs.OfVolumes as volumes
 use Rattle.sm_defs.specs.Operations as operations
-use Rattle.laws_run.specs.Early.{IsEarly, creates, writes, snaps, reads, heads, lists, digests}
+use Rattle.sm_lab.specs.Reporting.{IsServed}
 use Rattle.sm_lab.specs.Node.{volume_of, IsAnswered, IsWritten, IsSnapped, IsShown, ChangesOne, write_test, snap_test, read_test, create_test}
 use Rattle.sm_lab.specs.declared.volume.Volume.{Volume}
 
@@ -287,15 +290,21 @@ read_in vs disks w path name place at r v view e is h =
     let here : volume_of v ≡ volume_at w at = ap volume_of is ∙ volume_in vs disks w at v view (omega arith) in
     read_at w path name place at r (sym e) (subst (λ (m : model.Volume). IfOk r (λ reply. IsShown (read_test m name place) reply)) here h)
 
--- an early event is one of the seven
-pub is_one : {e : Event} → IsEarly e → ((path : List ℕ) (disk : DiskNo) (kind : Kind) (logical physical : ℕ) → ¬ (e ≡ events.CreateVolume path disk kind logical physical)) →
+pub none_related : (w : Up) (number : ℕ) → w.relations ≡ [] → ¬ HasRelation w number
+none_related w number none (r, m, same) = subst (λ (rs : List Relationship). Among rs r) none m
+
+-- an event that is served is one of the eight
+pub is_one : (e : Event) → IsServed e → ((path : List ℕ) (disk : DiskNo) (kind : Kind) (logical physical : ℕ) → ¬ (e ≡ events.CreateVolume path disk kind logical physical)) →
     ((path : List ℕ) (block fill : ℕ) → ¬ (e ≡ events.Write path block fill)) → ((path name : List ℕ) (label : Option (List ℕ)) → ¬ (e ≡ events.Snap path name label)) →
     ((path : List ℕ) (name : Option (List ℕ)) (block : ℕ) → ¬ (e ≡ events.Read path name block)) → ¬ (e ≡ events.Head) → ((volume : VolNo) → ¬ (e ≡ events.VolumeLine volume)) →
-    ((volume : VolNo) (place : Option ℕ) → ¬ (e ≡ events.Digest volume place)) → ⊥
-is_one (creates path disk kind logical physical) no_create no_write no_snap no_read no_head no_line no_digest = no_create path disk kind logical physical refl
-is_one (writes path block fill) no_create no_write no_snap no_read no_head no_line no_digest = no_write path block fill refl
-is_one (snaps path name label) no_create no_write no_snap no_read no_head no_line no_digest = no_snap path name label refl
-is_one (reads path name block) no_create no_write no_snap no_read no_head no_line no_digest = no_read path name block refl
-is_one heads no_create no_write no_snap no_read no_head no_line no_digest = no_head refl
-is_one (lists volume) no_create no_write no_snap no_read no_head no_line no_digest = no_line volume refl
-is_one (digests volume place) no_create no_write no_snap no_read no_head no_line no_digest = no_digest volume place refl
+    ((volume : VolNo) (place : Option ℕ) → ¬ (e ≡ events.Digest volume place)) → ((relation : RelNo) → ¬ (e ≡ events.RelationLine relation)) → ⊥
+is_one (events.CreateVolume path disk kind logical physical) y no_create no_write no_snap no_read no_head no_line no_digest no_relation = no_create path disk kind logical physical refl
+is_one (events.Write path block fill) y no_create no_write no_snap no_read no_head no_line no_digest no_relation = no_write path block fill refl
+is_one (events.Snap path name label) y no_create no_write no_snap no_read no_head no_line no_digest no_relation = no_snap path name label refl
+is_one (events.Read path name block) y no_create no_write no_snap no_read no_head no_line no_digest no_relation = no_read path name block refl
+is_one events.Head y no_create no_write no_snap no_read no_head no_line no_digest no_relation = no_head refl
+is_one (events.VolumeLine volume) y no_create no_write no_snap no_read no_head no_line no_digest no_relation = no_line volume refl
+is_one (events.Digest volume place) y no_create no_write no_snap no_read no_head no_line no_digest no_relation = no_digest volume place refl
+is_one (events.RelationLine relation) y no_create no_write no_snap no_read no_head no_line no_digest no_relation = no_relation relation refl
+is_one e (inl c) no_create no_write no_snap no_read no_head no_line no_digest no_relation = absurd c
+is_one e (inr l) no_create no_write no_snap no_read no_head no_line no_digest no_relation = absurd l

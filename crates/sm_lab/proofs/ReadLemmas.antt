@@ -1,5 +1,6 @@
 -- Laws on reads of blocks and of snapshots.
-use Rattle.std.proofs.Common.{◌≡◌, ℕ, zero, suc, ◌<◌, ◌==◌, ◌&&◌, Bool, true, false, cond, nat_le, List, [], ◌∷◌, ◌++◌, length, map, get_or, reverse, refl, sym, ap, ◌∙◌, arith, Option, Some, None, Err, Result, Box, IfOk, subst}
+use Rattle.std.proofs.Common.{◌≡◌, ℕ, zero, suc, ◌<◌, ◌==◌, Bool, true, false, cond, nat_le, List, [], ◌∷◌, ◌++◌, length, map, get_or, reverse, refl, sym, ap, ◌∙◌, arith, Option, Some, None, Err, Result, Box, IfOk, subst}
+use Rattle.std.proofs.lemmas.Bool.{and_parts}
 use Rattle.std.specs.Global.{Global}
 use Rattle.std.proofs.lemmas.Bool.Decides.{nat_tests}
 use Rattle.std.specs.List.{list_all, find}
@@ -67,13 +68,9 @@ pub newest_named : (name : List ℕ) (ss : List Snapshot) → last_that (λ (s :
 newest_named name ss = last_named name ss ∙ ap shown_of (sym (newest_is (λ (s : Snapshot). bytes_eq s.name name) ss))
 
 -- what is the last that passes is one of the list
-two : (a b : Bool) → (a && b) ≡ true → (a ≡ true) × (b ≡ true)
-two true b h = (refl, h)
-two false b h = absurd (cc)
-
 last_passes : (p q : Snapshot → Bool) (ss : List Snapshot) (s : Snapshot) → list_all q ss ≡ true → last_that p ss ≡ Some s → q s ≡ true
 last_passes p q [] s h e = absurd (cc)
-last_passes p q (t ∷ ss) s h e = let h' = two (q t) (list_all q ss) h in by_earlier (last_that p ss) (p t) refl h'.0 h'.1 e (last_passes p q ss)
+last_passes p q (t ∷ ss) s h e = let h' = and_parts (q t) (list_all q ss) h in by_earlier (last_that p ss) (p t) refl h'.0 h'.1 e (last_passes p q ss)
   where
     by_earlier : (o : Option Snapshot) (b : Bool) → last_that p ss ≡ o → q t ≡ true → list_all q ss ≡ true → or_earlier o b t ≡ Some s →
         ((u : Snapshot) → list_all q ss ≡ true → last_that p ss ≡ Some u → q u ≡ true) → q s ≡ true

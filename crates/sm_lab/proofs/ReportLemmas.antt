@@ -1,36 +1,35 @@
 -- The report's events, as they are put together and done.
-use Rattle.std.proofs.Common.{◌≡◌, ℕ, zero, suc, ◌+◌, ◌-◌, ◌<◌, ◌≤◌, List, [], ◌∷◌, ◌++◌, All, map, length, drop, get_or, append_assoc, append-nil, length-append, add-one, refl, sym, ap, subst, ◌∙◌, arith, Option, Some, None}
+use Rattle.std.proofs.Common.{◌≡◌, ℕ, zero, suc, ◌+◌, ◌-◌, ◌<◌, ◌≤◌, List, [], ◌∷◌, ◌++◌, All, map, length, drop, get_or, append_assoc, length-append, add-one, refl, sym, subst, ◌∙◌, inl, inr, arith, Option, Some, None}
 use Rattle.std.proofs.lemmas.List.Elements.{All-nil, All-cons, All-append, All-map, All-weaker, All-get_or}
 use Rattle.std.proofs.Math.Seq.{drop-cons}
 use Rattle.sm_model.specs.declared.event.Event.{Event}
 use Rattle.sm_model.specs.declared.event.Event.TheVariants as events
+use Rattle.sm_defs.specs.Words.{Among}
 use Rattle.sm_defs.specs.Volume.{Volume, numbers, no_volume}
 use Rattle.sm_defs.specs.Relationship.{Relationship}
 use Rattle.sm_defs.specs.World.{Up, volume_at}
 use Rattle.sm_model.specs.Answers.{volno}
 use Rattle.sm_model.specs.Asked.{events_of_volume, events_of_volumes, event_of_relation, report_events}
 use Rattle.sm_model.specs.InRange.{IsGiven, IsThere, IsPlace}
-use Rattle.laws_run.specs.Early.{IsEarly, heads, lists, digests, IsBare}
 use Rattle.sm_lab.specs.Reporting.{IsLook}
 
 -- what makes an event of the report go through
 pub record IsReported (w : Up) (e : Event) : Type 0 where
-  pub early : IsEarly e
   pub look : IsLook e
   pub given : IsGiven e
   pub there : IsThere w e
 
 head_reported : (w : Up) → IsReported w events.Head
 unfolding IsGiven IsThere
-head_reported w = record { early = heads; look = tt; given = tt; there = tt }
+head_reported w = record { look = tt; given = tt; there = tt }
 
 line_reported : (w : Up) (i : ℕ) → i < length w.volumes → IsReported w (events.VolumeLine (volno i))
 unfolding IsGiven IsThere
-line_reported w i there = record { early = lists (volno i); look = tt; given = tt; there = there }
+line_reported w i there = record { look = tt; given = tt; there = there }
 
 digest_reported : (w : Up) (i : ℕ) (place : Option ℕ) → i < length w.volumes → IsPlace (length (volume_at w i).snapshots) place → IsReported w (events.Digest (volno i) place)
 unfolding IsGiven IsThere
-digest_reported w i place there stands = record { early = digests (volno i) place; look = tt; given = tt; there = (there, stands) }
+digest_reported w i place there stands = record { look = tt; given = tt; there = (there, stands) }
 
 numbers_below : (t n bound : ℕ) → t + n ≤ bound → All (λ k. k < bound) (numbers t n)
 numbers_below t zero bound h = All-nil (λ k. k < bound)
@@ -62,25 +61,27 @@ volumes_reported w front (v ∷ vs) i e q =
     let next : suc i ≡ length (front ++ v ∷ []) = simp length-append (omega arith) in
     All-append (IsReported w) (events_of_volume i v) (events_of_volumes (suc i) vs) (volume_reported w i v there is) (volumes_reported w (front ++ v ∷ []) vs (suc i) more next)
 
--- without relationships the report is of volumes alone
+relation_reported : (w : Up) (r : Relationship) → Among w.relations r → IsReported w (event_of_relation r)
+unfolding IsGiven IsThere
+relation_reported w r m = record { look = tt; given = tt; there = (r, m, refl) }
+
+relations_reported : (w : Up) (rs : List Relationship) → ((r : Relationship) → Among rs r → Among w.relations r) → All (IsReported w) (map event_of_relation rs)
+relations_reported w [] h = All-nil (IsReported w)
+relations_reported w (r ∷ rs) h = All-cons (IsReported w) (event_of_relation r) (map event_of_relation rs) (relation_reported w r (h r (inl refl))) (relations_reported w rs (λ s m. h s (inr m)))
+
+-- the report up to its relationships
 abbrev pub volume_events : Up → List Event
 volume_events w = events.Head ∷ events_of_volumes 0 w.volumes
 
-no_more : (xs : List Event) (rs : List Relationship) → rs ≡ [] → xs ++ map event_of_relation rs ≡ xs
-no_more xs rs e = rw e (append-nil xs)
-
-pub report_is : (w : Up) → IsBare w → report_events w ≡ volume_events w
-report_is w b = ap (λ (es : List Event). events.Head ∷ es) (no_more (events_of_volumes 0 w.volumes) w.relations b.relations)
-
-all_reported : (w : Up) → IsBare w → All (IsReported w) (report_events w)
-all_reported w b =
-    subst (λ (es : List Event). All (IsReported w) es) (sym (report_is w b))
-    (All-cons (IsReported w) events.Head (events_of_volumes 0 w.volumes) (head_reported w) (volumes_reported w [] w.volumes 0 refl refl))
+all_reported : (w : Up) → All (IsReported w) (report_events w)
+all_reported w =
+    All-cons (IsReported w) events.Head (events_of_volumes 0 w.volumes ++ map event_of_relation w.relations) (head_reported w)
+    (All-append (IsReported w) (events_of_volumes 0 w.volumes) (map event_of_relation w.relations) (volumes_reported w [] w.volumes 0 refl refl) (relations_reported w w.relations (λ r m. m)))
 
 -- each event of the report goes through, where the world is still the one that it is of
-pub reported_at : (first w : Up) (report : List Event) (i : ℕ) (item e : Event) → IsBare first → report ≡ report_events first → w ≡ first → i < length report → item ≡ get_or report i item → e ≡ item → IsReported w e
-reported_at first w report i item e b is same below here equal =
-    let at : IsReported first (get_or report i item) = All-get_or (IsReported first) report i item below (rw is (all_reported first b)) in
+pub reported_at : (first w : Up) (report : List Event) (i : ℕ) (item e : Event) → report ≡ report_events first → w ≡ first → i < length report → item ≡ get_or report i item → e ≡ item → IsReported w e
+reported_at first w report i item e is same below here equal =
+    let at : IsReported first (get_or report i item) = All-get_or (IsReported first) report i item below (rw is (all_reported first)) in
     rw same (subst (IsReported first) (sym (equal ∙ here)) at)
 
 -- the events of the snapshots from a place on

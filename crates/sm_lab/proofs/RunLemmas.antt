@@ -13,7 +13,7 @@ use Rattle.sm_model.specs.Asked.{Asked}
 use Rattle.sm_model.specs.InRange.{IsGiven, IsThere}
 use Rattle.sm_model.specs.LegalRun.{Fits, done, quiet, IsDone, IsRefused}
 use Rattle.sm_script.specs.Grammar.{IsCommand}
-use Rattle.laws_run.specs.Early.{IsEarly, creates, writes, snaps, reads, heads, lists, digests, IsFaultless, AllFaultless}
+use Rattle.laws_run.specs.Histories.{IsFaultless, AllFaultless}
 use Rattle.laws_run.proofs.Runs as runs
 use Rattle.laws_run.proofs.Entries.{done_deed, refused_quiet, all_joined}
 use Rattle.laws_run.proofs.Faultless.{done_faultless, refused_faultless, faults_rise}
@@ -22,52 +22,42 @@ use Rattle.sm_lab.specs.Reporting.{IsLook}
 use Rattle.sm_lab.specs.History.{Reaches, Begins}
 
 -- an answer is a deed, or none where it is a refusal
-fits : (a b : Up) (e : Entry) (x : Option Answer) → IsEarly e.event → x ≡ answer a e.event → Answers a x e.reply b → (first : List Deed) × Fits (up a) e [] first (up b) []
-fits a b e (Some (Ok reached)) y q h =
+fits : (a b : Up) (e : Entry) (x : Option Answer) → x ≡ answer a e.event → Answers a x e.reply b → (first : List Deed) × Fits (up a) e [] first (up b) []
+fits a b e (Some (Ok reached)) q h =
     let d : Deed = record { actor = e.actor; event = e.event; old = a; reply = e.reply; new = b } in
-    (d ∷ [], done d refl refl refl refl (done_deed d y (subst (λ x. IsDone x d) q h)))
-fits a b e (Some (Err refusal)) y q h =
-    ([], subst (λ w. Fits (up a) e [] [] (up w) []) (sym h.1) (quiet (refused_quiet a e.reply y (subst (λ x. IsRefused x e.reply) q h.0))))
-fits a b e None y q h = absurd h
+    (d ∷ [], done d refl refl refl refl (done_deed e.event d (subst (λ x. IsDone x d) q h)))
+fits a b e (Some (Err refusal)) q h =
+    ([], subst (λ w. Fits (up a) e [] [] (up w) []) (sym h.1) (quiet (refused_quiet a e.event e.reply (subst (λ x. IsRefused x e.reply) q h.0))))
+fits a b e None q h = absurd h
 
 -- no disk fails in what is answered
-answered_faultless : (a b : Up) (e : Event) (reply : Reply) (x : Option Answer) → IsEarly e → answer a e ≡ x → Answers a x reply b → IsFaultless reply
-answered_faultless a b e reply (Some (Ok reached)) y q h = done_faultless a e reached reply q h.0
-answered_faultless a b e reply (Some (Err refusal)) y q h = refused_faultless a e reply refusal y q h.0
-answered_faultless a b e reply None y q h = absurd h
+answered_faultless : (a b : Up) (e : Event) (reply : Reply) (x : Option Answer) → answer a e ≡ x → Answers a x reply b → IsFaultless reply
+answered_faultless a b e reply (Some (Ok reached)) q h = done_faultless a e reached reply q h.0
+answered_faultless a b e reply (Some (Err refusal)) q h = refused_faultless a e reply refusal q h.0
+answered_faultless a b e reply None q h = absurd h
 
 pub nothing_yet : Reaches [] start
-nothing_yet = record { deeds = []; legal = record { runs = runs.nil (up start); faults_rise = tt }; early = tt; faultless = tt }
+nothing_yet = record { deeds = []; legal = record { runs = runs.nil (up start); faults_rise = tt }; faultless = tt }
 
 -- the history goes on by one entry
-pub goes_on : (es : List Entry) (e : Entry) (a b : Up) → IsEarly e.event → IsGiven e.event → IsThere a e.event → Reaches es a → Answers a (answer a e.event) e.reply b → Reaches (es ++ e ∷ []) b
-goes_on es e a b y given there run h =
-    let f = fits a b e (answer a e.event) y refl h in
-    let faultless : AllFaultless (es ++ e ∷ []) = all_joined (λ (e : Entry). IsFaultless e.reply) es (e ∷ []) run.faultless (answered_faultless a b e.event e.reply (answer a e.event) y refl h, tt) in
+pub goes_on : (es : List Entry) (e : Entry) (a b : Up) → IsGiven e.event → IsThere a e.event → Reaches es a → Answers a (answer a e.event) e.reply b → Reaches (es ++ e ∷ []) b
+goes_on es e a b given there run h =
+    let f = fits a b e (answer a e.event) refl h in
+    let faultless : AllFaultless (es ++ e ∷ []) = all_joined (λ (e : Entry). IsFaultless e.reply) es (e ∷ []) run.faultless (answered_faultless a b e.event e.reply (answer a e.event) refl h, tt) in
     record {
       deeds = run.deeds ++ f.0;
       legal = record { runs = runs.snoc (up start) (up a) (up b) es e run.deeds f.0 run.legal.runs (given, there) f.1; faults_rise = faults_rise (es ++ e ∷ []) faultless };
-      early = all_joined (λ (e : Entry). IsEarly e.event) es (e ∷ []) run.early (y, tt);
       faultless = faultless;
     }
 
 -- a report's event leaves the world
-pub looks : (a b : Up) (e : Event) (reply : Reply) → IsEarly e → IsLook e → Answers a (answer a e) reply b → b ≡ a
+pub looks : (a b : Up) (e : Event) (reply : Reply) → IsLook e → Answers a (answer a e) reply b → b ≡ a
 unfolding answer
-looks a b _ reply (creates path disk kind logical physical) look h = absurd look
-looks a b _ reply (writes path block fill) look h = absurd look
-looks a b _ reply (snaps path name label) look h = absurd look
-looks a b _ reply (reads path name block) look h = absurd look
-looks a b _ reply heads look h = h.1
-looks a b _ reply (lists volume) look h = h.1
-looks a b _ reply (digests volume place) look h = h.1
-
-pub command_early : (e : Event) → IsCommand e → IsEarly e
-command_early (events.CreateVolume path disk kind logical physical) h = creates path disk kind logical physical
-command_early (events.Write path block fill) h = writes path block fill
-command_early (events.Snap path name label) h = snaps path name label
-command_early (events.Read path name block) h = reads path name block
-command_early e h = absurd h
+looks a b events.Head reply look h = h.1
+looks a b (events.VolumeLine volume) reply look h = h.1
+looks a b (events.Digest volume place) reply look h = h.1
+looks a b (events.RelationLine relation) reply look h = h.1
+looks a b e reply look h = absurd look
 
 -- a command speaks of nothing that has to stand
 pub command_there : (a : Up) (e : Event) → IsCommand e → IsThere a e

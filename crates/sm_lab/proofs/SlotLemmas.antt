@@ -1,6 +1,6 @@
 -- Laws on the numbers of an image's blocks.
 use Rattle.std.proofs.Common.{◌≡◌, ℕ, zero, suc, ◌+◌, ◌<◌, ◌≤◌, true, List, [], ◌∷◌, ◌++◌, length, get_or, take, drop, refl, ap, ◌∙◌, arith, add-one, nat_le}
-use Rattle.std.proofs.lemmas.Bool.Decides.{nat_tests}
+use borrow.Author.Tests.{leb-true}
 use Rattle.std.specs.List.{list_all}
 use Rattle.sm_lab.specs.Slots.{slot_tags, counts}
 use Rattle.sm_lab.specs.declared.slot.Slot.{Slot}
@@ -28,14 +28,11 @@ left_by (s ∷ slots) (suc k) d h = left_by slots k d (omega arith)
 pub tags_left : (slots : List Slot) (k : ℕ) (d : Slot) → k < length slots → slot_tags (drop k slots) ≡ (get_or slots k d).tag ∷ slot_tags (drop (k + 1) slots)
 tags_left slots k d h = rw add-one (left_by slots k d h)
 
-fits_nat : (t n : ℕ) → nat_le t n ≡ true → t ≤ n
-fits_nat t n h = grind (arith, nat_tests)
-
 pub tag_fits : (n : ℕ) (slots : List Slot) (k : ℕ) (d : Slot) → k < length slots → list_all (λ t. nat_le t n) (slot_tags slots) ≡ true → (get_or slots k d).tag ≤ n
 tag_fits n slots k d h a =
     let low : nat_le (get_or (slot_tags slots) k 0) n ≡ true = all_at (λ t. nat_le t n) (slot_tags slots) k (rw (length-slot_tags slots) h) a in
     let low' : nat_le (get_or slots k d).tag n ≡ true = rw (tag_at slots k d h) at low in
-    fits_nat _ n low'
+    leb-true _ n low'
 
 -- a slot more is counted, and one less is left
 pub claimed_next : (n : ℕ) (slots : List Slot) (k : ℕ) (d : Slot) (us : List ℕ) (ts : List ℕ) → k < length slots → us ≡ counts n ((get_or slots k d).tag ∷ (slot_tags (take k slots) ++ ts)) →

@@ -1,5 +1,6 @@
 -- Laws on a volume's fields.
-use Rattle.std.proofs.Common.{◌≡◌, ℕ, zero, suc, ◌+◌, ◌*◌, ◌<◌, ◌≤◌, ◌^◌, ◌==◌, ◌&&◌, ◌||◌, append_assoc, append-nil, Bool, true, false, cond, nat_lt, nat_le, List, [], ◌∷◌, ◌++◌, length, map, get_or, slice_set, flat_map, replicate, refl, sym, ap, ◌∙◌, arith, Option, Some, None, position, count_by, Ok, Err, vec_len}
+use Rattle.std.proofs.Common.{◌≡◌, ℕ, zero, suc, ◌+◌, ◌*◌, ◌<◌, ◌≤◌, ◌^◌, ◌==◌, ◌||◌, append_assoc, append-nil, Bool, true, false, cond, nat_lt, nat_le, List, [], ◌∷◌, ◌++◌, length, map, get_or, slice_set, flat_map, replicate, refl, sym, ap, ◌∙◌, arith, Option, Some, None, position, count_by, Ok, Err, vec_len}
+use Rattle.std.proofs.lemmas.Bool.{and_parts}
 use Rattle.std.proofs.lemmas.Bool.Decides.{nat_tests}
 use Rattle.std.proofs.lemmas.List.{length-append, map-set}
 use Rattle.std.specs.List.{list_all, list_any, prefix_len}
@@ -96,10 +97,6 @@ room_found v o t e p =
 abbrev pub fits_in : ℕ → ℕ → Bool
 fits_in n t = nat_le t n
 
-two : (a b : Bool) → (a && b) ≡ true → (a ≡ true) × (b ≡ true)
-two true b h = (refl, h)
-two false b h = absurd (cc)
-
 -- the numbers of all places but one of the active image
 abbrev pub rest_tags : Volume → ℕ → List ℕ
 rest_tags v at = others at (slot_tags v.active.items) ++ (slot_tags v.stable.items ++ flat_map taken_tags v.snapshots.items)
@@ -121,7 +118,7 @@ tag_within v at d h =
 few_taken : (n : ℕ) (ss : List Snapshot) → n ≤ 4096 → list_all (λ (s : Snapshot). length s.image.items == n) ss ≡ true → length (flat_map taken_tags ss) ≤ 4096 * length ss
 few_taken n [] less h = omega arith
 few_taken n (s ∷ ss) less h =
-    let p = two (length s.image.items == n) (list_all (λ (s : Snapshot). length s.image.items == n) ss) h in
+    let p = and_parts (length s.image.items == n) (list_all (λ (s : Snapshot). length s.image.items == n) ss) h in
     let same : length s.image.items ≡ n = grind (arith, nat_tests) in
     let here : length (taken_tags s) ≡ length s.image.items = length-slot_tags s.image.items in
     let rest = few_taken n ss less p.1 in
@@ -264,7 +261,7 @@ snapped_counts v us xs s ss e f g h = rw (e, g, taken_more v.snapshots.items s, 
 
 pub all_long : (n : ℕ) (ss : List Snapshot) (s : Snapshot) → list_all (λ (t : Snapshot). length t.image.items == n) ss ≡ true → length s.image.items ≡ n → list_all (λ (t : Snapshot). length t.image.items == n) (ss ++ s ∷ []) ≡ true
 all_long n [] s h e = let b : (length s.image.items == n) ≡ true = grind (arith, nat_tests) in rw b refl
-all_long n (t ∷ ss) s h e = let p = two (length t.image.items == n) (list_all (λ (u : Snapshot). length u.image.items == n) ss) h in rw p.0 (all_long n ss s p.1 e)
+all_long n (t ∷ ss) s h e = let p = and_parts (length t.image.items == n) (list_all (λ (u : Snapshot). length u.image.items == n) ss) h in rw p.0 (all_long n ss s p.1 e)
 
 pub active_length : (v : Volume) → length v.active.items ≡ v.logical
 active_length v = let w : vec_len v.active ≡ v.logical = v.whole in omega (arith, v.active.ok)

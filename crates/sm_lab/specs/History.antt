@@ -13,18 +13,17 @@ use Rattle.sm_model.specs.Asked.{Asked, asking, asked_of, report_events}
 use Rattle.sm_model.specs.Standing.{Stands}
 use Rattle.sm_model.specs.Drops.{Drops, NamedFor}
 use Rattle.laws_contents.specs.Contents.{HasOrigin}
-use Rattle.laws_run.specs.Early.{AllEarly, AllFaultless}
+use Rattle.laws_run.specs.Histories.{AllFaultless}
 use Rattle.sm_lab.specs.Node.{start}
 
 -- from the empty world the entries lead to this world, with these deeds
 abbrev pub LeadsTo : List Entry → List Deed → Up → Type 0
 LeadsTo history deeds world = Run (up start) history [] deeds (up world)
 
--- so they do as a legal run of events on volumes alone, without restarts, in which no disk fails
+-- so they do as a legal run without restarts, in which no disk fails
 pub record Reaches (history : List Entry) (world : Up) : Type 0 where
   pub deeds : List Deed
   pub legal : IsLegalRun start history [] deeds (up world)
-  pub early : AllEarly history
   pub faultless : AllFaultless history
 
 abbrev pub IsLegal : List Entry → Type 0

@@ -2,8 +2,7 @@ ghost use Rattle.std.specs.Prelude.{◌≡◌, ◌++◌, ◌∷◌, [], All, map
 ghost use Rattle.sm_model.specs.Asked.{asked_of, asking, report_events};
 ghost use Rattle.sm_model.specs.InRange.{IsGiven, IsThere};
 ghost use Rattle.sm_script.specs.Grammar.{IsCommand};
-ghost use Rattle.laws_run.specs.Early.{IsEarly};
-ghost use Rattle.sm_lab.specs.Reporting.{IsLook};
+ghost use Rattle.sm_lab.specs.Reporting.{IsLook, IsServed};
 ghost use Rattle.sm_lab.specs.History.{Reaches, HasBegun, asked_by};
 
 use crate::node::Node;
@@ -21,7 +20,7 @@ fn perform(
     line: u32,
     event: Event,
 ) -> Result<(), NoMemory>
-    requires early { IsEarly event }
+    requires served { IsServed event }
     requires given { IsGiven event }
     requires there { IsThere node.old event }
     requires run { Reaches history.old.items node.old }

@@ -1,22 +1,22 @@
-ghost use Rattle.std.specs.Prelude.{◌≡◌, ◌==◌, false, ◌<◌, ◌≤◌, IfOk, OnOk, OnErr, map, length, position, slice_get};
+ghost use Rattle.std.specs.Prelude.{◌≡◌, ◌==◌, false, ◌<◌, ◌≤◌, [], IfOk, OnOk, OnErr, map, length, position, slice_get};
 ghost use Rattle.std.specs.List.{list_any};
 ghost use Rattle.std.specs.Str.{bytes_eq};
 ghost use Rattle.sm_defs.specs.World.{volume_at};
 ghost use Rattle.sm_model.specs.Answer.{answer};
-ghost use Rattle.sm_model.specs.InRange.{IsGiven, IsThere, IsPlace};
+ghost use Rattle.sm_model.specs.InRange.{IsGiven, IsThere, IsPlace, HasRelation};
 ghost use Rattle.sm_model.specs.OfVolumes as volumes;
 ghost use Rattle.sm_model.specs.OfReport as reports;
 ghost use Rattle.sm_model.specs.declared.reply.Reply.TheVariants as replies;
 ghost use Rattle.sm_base.specs.declared.refusal.Refusal.TheVariants as refusals;
 ghost use Rattle.sm_base.specs.declared.limits.TheConstants.{MOST_VOLUMES, MOST_SNAPSHOTS, MOST_LOGICAL, MOST_PHYSICAL};
-ghost use Rattle.laws_run.specs.Early.{IsEarly};
+ghost use Rattle.sm_lab.specs.Reporting.{IsServed};
 ghost use Rattle.sm_lab.specs.Node.{start, IsAnswered, Answers, IsWritten, IsSnapped, ChangesOne, create_test, write_test, snap_test, volume_of};
 
 use crate::volume::Volume;
 use crate::volumes::{image_line, make_volume, read_from, snap_to, volume_line, write_to};
 use sm_base::limits::{BLOCKS_START, DISK_LENGTH, MOST_DISKS, MOST_VOLUMES};
-use sm_base::{DiskNo, Kind, Label, NoMemory, Path, Refusal, SnapName, VolNo, What};
-use sm_model::{Event, Line, Reply};
+use sm_base::{DiskNo, Kind, Label, NoMemory, Path, Refusal, RelNo, SnapName, VolNo, What};
+use sm_model::{Event, Line, Reply, WorldRelation};
 use std::alloc::Global;
 use std::marker::Model;
 
@@ -136,6 +136,22 @@ impl Node {
         ensures few { result ≤ MOST_SNAPSHOTS }
     {
         self.volumes[volume as usize].snapshots.len() as u32
+    }
+
+    /// What holds of every node: no relationship stands.
+    fn told(&self)
+        ensures { self.now.relations ≡ [] }
+    {
+        // What a node is made of is known where a field is named.
+        let _ = &self.volumes;
+    }
+
+    /// The relationships, of which none is ever made here.
+    pub fn relations(&self) -> &[WorldRelation]
+        ensures { result.now ≡ self.now.relations }
+    {
+        self.told();
+        &[]
     }
 
     /// The place of the first volume with this path.
@@ -312,10 +328,19 @@ impl Node {
         })
     }
 
+    /// The report's line on a relationship: none stands here, so none is asked for.
+    fn of_relation(&self, relation: RelNo) -> Reply
+        requires { HasRelation self.now relation.0 }
+        ensures { IsAnswered self.now (reports.of_relation self.now relation) result self.now }
+    {
+        self.told();
+        unreachable!()
+    }
+
     /// Does one event. An `Err` changes nothing.
     #[tactic(auto, unfolding(sm_model::specs::Answer::answer, sm_model::specs::InRange::IsGiven, sm_model::specs::InRange::IsThere))]
     pub fn act(&mut self, alloc: Global, event: &Event) -> Result<Reply, NoMemory>
-        requires early { IsEarly event.now }
+        requires served { IsServed event.now }
         requires given { IsGiven event.now }
         requires there { IsThere self.old event.now }
         ensures answered { IfOk result (λ reply. Answers self.old (answer self.old event.now) reply self.new) }
@@ -335,6 +360,7 @@ impl Node {
             Event::Head => Ok(self.head()),
             Event::VolumeLine { volume } => self.of_volume(alloc, *volume),
             Event::Digest { volume, place } => self.of_image(alloc, *volume, *place),
+            Event::RelationLine { relation } => Ok(self.of_relation(*relation)),
             _ => unreachable!(),
         }
     }

@@ -17,10 +17,11 @@ fn add_entry(alloc: Global, entry: &Entry, text: &mut Vec<u8>) -> Result<(), NoM
     ensures ok { OnOk result (text.new.items ≡ text.old.items ++ printed_text entry.now) }
     ensures err { OnErr result (text.new.items ≡ text.old.items) }
 {
-    if entry.actor == 0 {
-        let printed = entry_text(alloc, entry)?;
-        text.extend_from_slice(printed.as_bytes())?;
+    if entry.actor != 0 {
+        return Ok(());
     }
+    let printed = entry_text(alloc, entry)?;
+    text.extend_from_slice(printed.as_bytes())?;
     Ok(())
 }
 

@@ -16,6 +16,7 @@ use crate::slot::{Slot, Snapshot};
 use crate::uses::{claim_snapshot, free_number, move_place, used_of};
 use crate::volume::Volume;
 use sha2::{Digest, Sha256};
+use sm_base::limits::{LAST_NUMBER, MOST_SNAPSHOTS};
 use sm_base::{Block, DiskNo, Ident, Kind, Label, NoMemory, Path, Refusal, SnapName, VolNo};
 use sm_model::{Line, Reply, copy_label};
 use std::alloc::Global;
