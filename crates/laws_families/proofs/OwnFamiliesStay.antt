@@ -30,7 +30,7 @@ use Rattle.laws_cases.proofs.Needed.NeedsStay.{deeds_keep}
 use Rattle.laws_cases.proofs.Lists.Thinned.{thinned_among}
 use Rattle.laws_cases.proofs.Answers.Plainly.{rw_from, not_both, rw_if}
 use Rattle.laws_cases.proofs.Steps.DueCases.{IsDue, due_revert, due_finish, due_settle, due_prepare, due_prune, due_publish, due_checkpoint, due_ship, kind_is_due, no_reason, tidy_within}
-use Rattle.laws_families.proofs.FamiliesStay.{deeds_keep_given, restarts_keep_given}
+use Rattle.laws_families.proofs.BlocksStay.{deeds_keep_given, restarts_keep_given}
 use Rattle.laws_cases.proofs.Moves.Moves.{IsMove}
 use Rattle.laws_cases.proofs.Moves.OfMoves.{deed_moves}
 use Rattle.laws_cases.proofs.Lists.MoveFrames.{OfEach, each_set, none_of, one_of}
@@ -117,8 +117,8 @@ of_step : (w : Up) (e : Effect) → SoundUp w → IsStep w e → By w e
 of_step w e s (by_transfer k x kind r d i) = of_effect w k x kind e s r (kind_is_due x kind d) i
 of_step w e s (by_tidy n d i) = subst (By w) (sym i) (tidies w n s d)
 
-pub deeds_keep_all_families : (e : Event) (d : Deed) → SoundUp d.old → IsDeed e d → FamiliesStand d.new
-deeds_keep_all_families e d s i = record { given = deeds_keep_given e d s i; transfers = go (deed_moves e d i) }
+pub deeds_keep_own_families : (e : Event) (d : Deed) → SoundUp d.old → IsDeed e d → FamiliesStand d.new
+deeds_keep_own_families e d s i = record { given = deeds_keep_given e d s i; transfers = go (deed_moves e d i) }
   where
     go : IsStepDeed d ⊎ IsMove d.old d.new → AllStand d.new
     go (inl t) = of_step d.old _ s t (deeds_keep e d i)
@@ -167,8 +167,8 @@ rejoined_stands w h r t m f = let (q, n, e) = from_map rejoined w.relations r m 
     go q n (Some u) g i = subst (FamilyStands w (rejoined q)) (same_Some _ t i)
         (family_on w q (rejoined q) u _ refl refl refl refl (λ j l. l) (λ j b z. (j, same_base_or_first q (rejoined q) u.legs j refl b, z)) (h q u n g))
 
-pub restarts_keep_all_families : (w : Up) → SoundUp w → FamiliesStand (opened w)
-restarts_keep_all_families w s = record {
+pub restarts_keep_own_families : (w : Up) → SoundUp w → FamiliesStand (opened w)
+restarts_keep_own_families w s = record {
   given = restarts_keep_given w s.families_stand.given;
   transfers = listed (Reopened w) w.next_relation w.next_transfer _ (rejoined_idle (Reopened w)) (rejoined_stands (Reopened w) (reopened_stands w s));
 }
