@@ -1,12 +1,12 @@
 -- A reply that tells an answer is an answer's reply.
-use Rattle.std.proofs.Common.{Option, Some, None, refl}
+use Rattle.std.proofs.Common.{refl}
 use Rattle.sm_model.specs.declared.reply.Reply.{Reply}
 use Rattle.sm_model.specs.declared.reply.Reply.TheVariants as replies
 use Rattle.sm_defs.specs.World.{Up}
 use Rattle.sm_model.specs.Answers.{Answer}
-use Rattle.oracle_volumes.specs.Answering.{IsAnswered, Answers, IsAnswer, IsReplied}
+use Rattle.oracle_volumes.specs.Answering.{IsAnswered, Answers}
 
-is_answered : (old new : Up) (a : Answer) (reply : Reply) → Answers old a reply new → IsAnswered old a reply new
+pub is_answered : (old new : Up) (a : Answer) (reply : Reply) → Answers old a reply new → IsAnswered old a reply new
 is_answered old new a (replies.Refused refusal) h = rw h.0 (refl, h.1)
 is_answered old new a (replies.Bytes block) h = rw h ((block, refl, refl), refl)
 is_answered old new a replies.Done h = rw h (refl, refl)
@@ -31,7 +31,3 @@ is_answered old new a (replies.Settled r b e) h = rw h (refl, refl)
 is_answered old new a (replies.Tidied v d) h = rw h (refl, refl)
 is_answered old new a (replies.Interrupted r s) h = rw h (refl, refl)
 is_answered old new a replies.Idle h = rw h (refl, refl)
-
-pub is_replied : (old new : Up) (o : Option Answer) (reply : Reply) → IsAnswer old o reply new → IsReplied old o (Some reply) new
-is_replied old new None reply h = absurd h
-is_replied old new (Some a) reply h = is_answered old new a reply h

@@ -52,3 +52,8 @@ unfolding answer IsActed
 replied w actor (events.Work shown) reply new h = absurd (cc)
 replied w actor events.Restart reply new h = absurd (cc)
 replied w actor e reply new h = reached w (answer w e) reply new h
+
+-- without an answer nothing changed
+pub unchanged : (w new : Up) (o : Option Answer) → IsReplied w o None new → new ≡ w
+unchanged w new None h = h.1
+unchanged w new (Some a) h = absurd h

@@ -1,8 +1,7 @@
--- What the plain machine makes of an event, and of a list of them.
-use Rattle.std.specs.Prelude.{◌≡◌, ℕ, List, [], ◌∷◌, Option, Some, None}
+-- What the plain machine makes of an event.
+use Rattle.std.specs.Prelude.{◌≡◌, ℕ, Option, Some, None}
 use Rattle.sm_model.specs.declared.event.Event.{Event}
 use Rattle.sm_model.specs.declared.event.Event.TheVariants as events
-use Rattle.sm_model.specs.declared.reply.Entry.{Entry}
 use Rattle.sm_model.specs.declared.reply.Reply.{Reply}
 use Rattle.sm_model.specs.declared.reply.Reply.TheVariants as replies
 use Rattle.sm_defs.specs.World.{Up}
@@ -11,8 +10,6 @@ use Rattle.sm_model.specs.Answer.{answer}
 use Rattle.sm_model.specs.Choice.{chosen}
 use Rattle.sm_model.specs.Opened.{opened}
 use Rattle.sm_model.specs.Steps.{Effect}
-use Rattle.sm_model.specs.Asked.{Asked}
-use Rattle.oracle_answers.specs.declared.asked.PlainAsked.{PlainAsked}
 use Rattle.oracle_volumes.specs.Answering.{IsAnswered}
 
 -- the event has an answer, and this is it
@@ -32,16 +29,8 @@ IsActed old actor (events.Work shown) reply new = IsWorked old (chosen old actor
 IsActed old actor events.Restart reply new = (reply ≡ replies.Done) × (new ≡ opened old)
 IsActed old actor event reply new = IsReached old (answer old event) reply new
 
--- one entry after another
-abbrev pub AreActed : Up → List Entry → Up → Type 0
-AreActed old [] new = new ≡ old
-AreActed old (e ∷ es) new = (mid : Up) × IsActed old e.actor e.event e.reply mid × AreActed mid es new
-
 -- a worker's step or a restart
 unfoldable pub IsUnanswered : Event → Type 0
 IsUnanswered (events.Work shown) = Unit {0}
 IsUnanswered events.Restart = Unit {0}
 IsUnanswered event = ⊥
-
-abbrev pub asked_for : PlainAsked → Asked
-asked_for a = record { actor = a.actor; line = a.line; event = a.event }

@@ -6,7 +6,7 @@ ghost use Rattle.sm_model.specs.OfReport as model;
 use oracle_lists::{PlainBlock, PlainSnapshot};
 use oracle_relations::policy_of;
 use oracle_world::{
-    PlainFault, PlainVolume, PlainWorld, mirror_state, small, status, used, volume_at,
+    PlainFault, PlainNumber, PlainVolume, PlainWorld, mirror_state, small, status, used, volume_at,
 };
 use sha2::{Digest, Sha256};
 use sm_base::{NoMemory, VolNo};
@@ -133,7 +133,9 @@ pub(crate) fn volume_of(world: &PlainWorld, number: VolNo) -> Result<&PlainVolum
     ensures none { OnErr result (length world.now.volumes ≤ number.0) }
 {
     match volume_at(world, number.0 as usize) {
-        None => Err(PlainFault::TooGreat),
+        None => Err(PlainFault::TooGreat {
+            number: PlainNumber::Place,
+        }),
         Some(volume) => Ok(volume),
     }
 }

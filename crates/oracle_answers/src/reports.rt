@@ -12,7 +12,7 @@ use crate::lines::{
 use oracle_lists::PlainSnapshot;
 use oracle_relations::relation;
 use oracle_volumes::{place_of, refuse_path};
-use oracle_world::{PlainFault, PlainVolume, PlainWorld, small, snapshots_at};
+use oracle_world::{PlainFault, PlainNumber, PlainVolume, PlainWorld, small, snapshots_at};
 use sm_base::{NoMemory, Path, RelNo, VolNo};
 use sm_model::{Line, Lines, Reply, WorldPolicy, WorldRelation};
 use std::alloc::Global;
@@ -24,7 +24,9 @@ fn volume_lines(alloc: Global, first: u32, volumes: &[PlainVolume]) -> Result<Ve
         [] => Ok(Vec::new(alloc)),
         [volume, others @ ..] => {
             if first == u32::MAX {
-                return Err(PlainFault::TooGreat);
+                return Err(PlainFault::TooGreat {
+                    number: PlainNumber::Count,
+                });
             }
             let line = volume_line(alloc, VolNo(first), volume)?;
             let mut lines = volume_lines(alloc, first + 1, others)?;
@@ -171,7 +173,9 @@ fn digest_line(
         Some(place) => {
             let place = place as usize;
             if place >= volume.snapshots.len() {
-                return Err(PlainFault::TooGreat);
+                return Err(PlainFault::TooGreat {
+                    number: PlainNumber::Place,
+                });
             }
             Ok(snapshot_line(alloc, number, &volume.snapshots[place])?)
         }
@@ -209,7 +213,9 @@ fn numbered(world: &PlainWorld, number: RelNo) -> Result<&WorldRelation, PlainFa
     ensures { IfOk result (λ r. r.now ≡ model.numbered world.now number) }
 {
     let Some(at) = place_numbered(&world.relations, number) else {
-        return Err(PlainFault::TooGreat);
+        return Err(PlainFault::TooGreat {
+            number: PlainNumber::Place,
+        });
     };
     Ok(relation(world, at))
 }

@@ -1,10 +1,9 @@
 // What events on relationships are answered, but for those that start or stop a transfer.
-ghost use Rattle.std.specs.Prelude.{◌≡◌, ◌==◌, ◌||◌, ◌&&◌, not, ◌<◌, length, IfOk, position};
+ghost use Rattle.std.specs.Prelude.{◌≡◌, ◌==◌, ◌||◌, ◌&&◌, not, ◌<◌, length, IfOk, OnErr, position};
 ghost use Rattle.std.specs.List.{filter};
 ghost use Rattle.sm_defs.specs.Words.{found};
 ghost use Rattle.sm_defs.specs.Edges.{edges};
 ghost use Rattle.sm_defs.specs.Volume.{is_rw};
-ghost use Rattle.sm_base.specs.declared.limits.TheConstants.{MOST_RELATIONS, LAST_RELATION};
 ghost use Rattle.sm_defs.specs.World.{volume_at, policy_at, relation_at, with_volume, with_relation, no_relation};
 ghost use Rattle.sm_model.specs.Answers.{goes_to};
 ghost use Rattle.sm_model.specs.OfRelations as model;
@@ -18,8 +17,10 @@ use oracle_volumes::{
     is_writable, place_of, place_of_policy, policy, refuse_path, refuse_policy, volume,
 };
 use oracle_world::{
-    PlainEdges, PlainFault, PlainVolume, PlainWorld, is_mirror, relation_to, small, upstream,
+    PlainEdges, PlainFault, PlainNumber, PlainVolume, PlainWorld, is_mirror, relation_to, small,
+    upstream,
 };
+use sm_base::limits::{LAST_RELATION, MOST_RELATIONS};
 use sm_base::{Kind, Path, Path1, Refusal, RelNo, VolNo, What};
 use sm_model::{Reply, WorldRelation};
 use std::alloc::Global;
@@ -56,7 +57,7 @@ fn closes(world: &PlainWorld, source: u32, destination: u32) -> bool
 fn has_all_relations(world: &PlainWorld) -> bool
     ensures { result ≡ ((length world.now.relations == MOST_RELATIONS) || (world.now.next_relation == LAST_RELATION)) }
 {
-    world.relations.len() == 64 || world.next_relation == u32::MAX
+    world.relations.len() == MOST_RELATIONS || world.next_relation == LAST_RELATION
 }
 
 fn add_relation(
@@ -65,11 +66,14 @@ fn add_relation(
     destination: u32,
     policy: u32,
 ) -> Result<RelNo, PlainFault>
-    ensures { IfOk result (λ number. (number.0 ≡ world.old.next_relation) × (world.new ≡ model.with_new_relation world.old source destination policy)) }
+    ensures ok { IfOk result (λ number. (number.0 ≡ world.old.next_relation) × (world.new ≡ model.with_new_relation world.old source destination policy)) }
+    ensures err { OnErr result (world.new ≡ world.old) }
 {
     let next = world.next_relation;
     if next == u32::MAX {
-        return Err(PlainFault::TooGreat);
+        return Err(PlainFault::TooGreat {
+            number: PlainNumber::Relation,
+        });
     }
     let number = RelNo(next);
     world.relations.push(WorldRelation {
@@ -95,7 +99,8 @@ pub fn relate(
     destination: &Path,
     policy: &Path1,
 ) -> Result<Reply, PlainFault>
-    ensures { IfOk result (λ reply. Answers world.old (model.relate world.old source.now destination.now policy.now) reply world.new) }
+    ensures ok { IfOk result (λ reply. Answers world.old (model.relate world.old source.now destination.now policy.now) reply world.new) }
+    ensures err { OnErr result (world.new ≡ world.old) }
 {
     let Some(from) = place_of(world, source) else {
         return refuse_path(alloc, source);
@@ -146,7 +151,8 @@ pub fn set_quiesced(
     destination: &Path,
     flag: bool,
 ) -> Result<Reply, PlainFault>
-    ensures { IfOk result (λ reply. Answers world.old (model.set_quiesced world.old destination.now flag) reply world.new) }
+    ensures ok { IfOk result (λ reply. Answers world.old (model.set_quiesced world.old destination.now flag) reply world.new) }
+    ensures err { OnErr result (world.new ≡ world.old) }
 {
     let Some(t) = target(world, destination) else {
         return Ok(Reply::Refused(no_target(alloc, world, destination)?));
@@ -174,7 +180,8 @@ pub fn break_off(
     alloc: Global,
     destination: &Path,
 ) -> Result<Reply, PlainFault>
-    ensures { IfOk result (λ reply. Answers world.old (model.break_off world.old destination.now) reply world.new) }
+    ensures ok { IfOk result (λ reply. Answers world.old (model.break_off world.old destination.now) reply world.new) }
+    ensures err { OnErr result (world.new ≡ world.old) }
 {
     let Some(t) = target(world, destination) else {
         return Ok(Reply::Refused(no_target(alloc, world, destination)?));
@@ -236,7 +243,8 @@ pub fn delete(
     alloc: Global,
     destination: &Path,
 ) -> Result<Reply, PlainFault>
-    ensures { IfOk result (λ reply. Answers world.old (model.delete world.old destination.now) reply world.new) }
+    ensures ok { IfOk result (λ reply. Answers world.old (model.delete world.old destination.now) reply world.new) }
+    ensures err { OnErr result (world.new ≡ world.old) }
 {
     let Some(t) = target(world, destination) else {
         return Ok(Reply::Refused(no_target(alloc, world, destination)?));
@@ -320,7 +328,8 @@ pub fn release(
     source: &Path,
     destination: &Path,
 ) -> Result<Reply, PlainFault>
-    ensures { IfOk result (λ reply. Answers world.old (model.release world.old source.now destination.now) reply world.new) }
+    ensures ok { IfOk result (λ reply. Answers world.old (model.release world.old source.now destination.now) reply world.new) }
+    ensures err { OnErr result (world.new ≡ world.old) }
 {
     let Some(from) = place_of(world, source) else {
         return refuse_path(alloc, source);

@@ -1,6 +1,5 @@
 // What a new transfer sends, and how it begins.
 ghost use Rattle.std.specs.Prelude.{◌≡◌, ◌<◌, ◌≤◌, ◌==◌, length, IfOk, OnOk, OnErr};
-ghost use Rattle.sm_base.specs.declared.limits.TheConstants.{LAST_NUMBER};
 ghost use Rattle.sm_defs.specs.Edges.{is_empty};
 ghost use Rattle.sm_defs.specs.Retention.{labels, keep_reached};
 ghost use Rattle.sm_defs.specs.World.{volume_at, policy_at, relation_at, with_relation};
@@ -13,8 +12,10 @@ use oracle_lists::{
 };
 use oracle_volumes::policy;
 use oracle_world::{
-    PlainFault, PlainWorld, back_at, is_mirror, kind_at, small, snapshots_at, with_transfer,
+    PlainFault, PlainNumber, PlainWorld, back_at, is_mirror, kind_at, small, snapshots_at,
+    with_transfer,
 };
+use sm_base::limits::LAST_NUMBER;
 use sm_base::{Ident, Label, NoMemory, Refusal, TransferKind, What};
 use sm_model::{Reply, WorldPolicy, WorldRelation, WorldRule, WorldTransfer, copy_label};
 use std::alloc::Global;
@@ -46,7 +47,9 @@ pub fn policy_of<'a>(
     if at < world.policies.len() {
         Ok(policy(world, at))
     } else {
-        Err(PlainFault::TooGreat)
+        Err(PlainFault::TooGreat {
+            number: PlainNumber::Place,
+        })
     }
 }
 
@@ -62,7 +65,9 @@ pub(crate) fn next_legs(
 {
     let number = world.next_transfer;
     if number >= 1 << 63 {
-        return Err(PlainFault::TooGreat);
+        return Err(PlainFault::TooGreat {
+            number: PlainNumber::Transfer,
+        });
     }
     let policy = policy_of(world, relation)?;
     let source = source_of(alloc, world, relation)?;
@@ -174,7 +179,7 @@ pub(crate) fn next_number(world: &PlainWorld) -> u64
 pub(crate) fn has_all_transfers(world: &PlainWorld) -> bool
     ensures { result ≡ (world.now.next_transfer == LAST_NUMBER) }
 {
-    world.next_transfer == 1 << 62
+    world.next_transfer == LAST_NUMBER
 }
 
 /// A transfer of these legs that has landed nothing.
@@ -205,11 +210,14 @@ pub(crate) fn put_next(
     relation: WorldRelation,
 ) -> Result<(), PlainFault>
     requires { at < length world.old.relations }
-    ensures { OnOk result (world.new ≡ model.with_next_transfer world.old at relation) }
+    ensures ok { OnOk result (world.new ≡ model.with_next_transfer world.old at relation) }
+    ensures err { OnErr result (world.new ≡ world.old) }
 {
     let number = world.next_transfer;
     if number == u64::MAX {
-        return Err(PlainFault::TooGreat);
+        return Err(PlainFault::TooGreat {
+            number: PlainNumber::Transfer,
+        });
     }
     world.relations[at] = relation;
     world.next_transfer = number + 1;
@@ -267,7 +275,8 @@ fn begin(
     legs: PlainLegs,
 ) -> Result<(), PlainFault>
     requires { at < length world.old.relations }
-    ensures { OnOk result (world.new ≡ model.with_next_transfer world.old at (model.with_transfer (relation_at world.old at) (model.new_transfer world.old.next_transfer kind legs))) }
+    ensures ok { OnOk result (world.new ≡ model.with_next_transfer world.old at (model.with_transfer (relation_at world.old at) (model.new_transfer world.old.next_transfer kind legs))) }
+    ensures err { OnErr result (world.new ≡ world.old) }
 {
     let transfer = new_transfer(alloc, world.next_transfer, kind, legs);
     let relation = with_transfer(relation(world, at), Some(transfer));
@@ -282,7 +291,8 @@ fn start(
     kind: TransferKind,
 ) -> Result<Reply, PlainFault>
     requires { at < length world.old.relations }
-    ensures { IfOk result (λ reply. Answers world.old (model.start_it world.old at (relation_at world.old at) kind) reply world.new) }
+    ensures ok { IfOk result (λ reply. Answers world.old (model.start_it world.old at (relation_at world.old at) kind) reply world.new) }
+    ensures err { OnErr result (world.new ≡ world.old) }
 {
     let legs = legs_at(alloc, world, at)?;
     if let Err(refusal) = test_room_at(alloc, world, at, &legs)? {
@@ -314,7 +324,8 @@ pub(crate) fn resume_or_start(
     kind: TransferKind,
 ) -> Result<Reply, PlainFault>
     requires { at < length world.old.relations }
-    ensures { IfOk result (λ reply. let r = relation_at world.old at in Answers world.old (model.resume_or_start world.old at r kind r.transfer) reply world.new) }
+    ensures ok { IfOk result (λ reply. let r = relation_at world.old at in Answers world.old (model.resume_or_start world.old at r kind r.transfer) reply world.new) }
+    ensures err { OnErr result (world.new ≡ world.old) }
 {
     let relation = relation(world, at);
     match &relation.transfer {

@@ -7,7 +7,7 @@ ghost use Rattle.oracle_relations.specs.Targets.{IsTarget};
 
 use crate::target::PlainTarget;
 use oracle_volumes::place_of;
-use oracle_world::{PlainFault, PlainWorld, relation_to, runs, snapshots_at};
+use oracle_world::{PlainFault, PlainNumber, PlainWorld, relation_to, runs, snapshots_at};
 use sm_base::{Path, Refusal};
 use sm_model::WorldRelation;
 use std::alloc::Global;
@@ -44,7 +44,9 @@ pub(crate) fn no_target(
         });
     };
     if relation_to(world, destination).is_some() {
-        return Err(PlainFault::TooGreat);
+        return Err(PlainFault::TooGreat {
+            number: PlainNumber::Place,
+        });
     }
     Ok(Refusal::NoRelation {
         path: path.copy(alloc)?,

@@ -1,5 +1,5 @@
 // What events that start, resume or stop a transfer are answered.
-ghost use Rattle.std.specs.Prelude.{◌≡◌, ◌<◌, ◌&&◌, not, length, IfOk, OnOk, Some, is_some, is_none};
+ghost use Rattle.std.specs.Prelude.{◌≡◌, ◌<◌, ◌&&◌, not, length, IfOk, OnErr, OnOk, Some, is_some, is_none};
 ghost use Rattle.sm_base.specs.declared.numbers.TransferKind.TheVariants.{Resync};
 ghost use Rattle.sm_defs.specs.Relationship.{is_mirror};
 ghost use Rattle.oracle_world.specs.Finding.{number_of};
@@ -46,7 +46,8 @@ pub fn initialize(
     alloc: Global,
     destination: &Path,
 ) -> Result<Reply, PlainFault>
-    ensures { IfOk result (λ reply. Answers world.old (model.initialize world.old destination.now) reply world.new) }
+    ensures ok { IfOk result (λ reply. Answers world.old (model.initialize world.old destination.now) reply world.new) }
+    ensures err { OnErr result (world.new ≡ world.old) }
 {
     let Some(t) = target(world, destination) else {
         return Ok(Reply::Refused(no_target(alloc, world, destination)?));
@@ -110,7 +111,8 @@ pub fn update(
     alloc: Global,
     destination: &Path,
 ) -> Result<Reply, PlainFault>
-    ensures { IfOk result (λ reply. Answers world.old (model.update world.old destination.now) reply world.new) }
+    ensures ok { IfOk result (λ reply. Answers world.old (model.update world.old destination.now) reply world.new) }
+    ensures err { OnErr result (world.new ≡ world.old) }
 {
     let Some(t) = target(world, destination) else {
         return Ok(Reply::Refused(no_target(alloc, world, destination)?));
@@ -226,7 +228,8 @@ fn abort_settled(
     transfer: WorldTransfer,
 ) -> Result<Reply, PlainFault>
     requires { at < length world.old.relations }
-    ensures { IfOk result (λ reply. Answers world.old (model.abort_settled world.old at hard relation transfer) reply world.new) }
+    ensures ok { IfOk result (λ reply. Answers world.old (model.abort_settled world.old at hard relation transfer) reply world.new) }
+    ensures err { OnErr result (world.new ≡ world.old) }
 {
     let transfer = transfer_or(alloc, &relation, &transfer)?;
     if hard || is_done(&transfer) {
@@ -246,7 +249,8 @@ pub fn abort(
     destination: &Path,
     hard: bool,
 ) -> Result<Reply, PlainFault>
-    ensures { IfOk result (λ reply. Answers world.old (model.abort world.old destination.now hard) reply world.new) }
+    ensures ok { IfOk result (λ reply. Answers world.old (model.abort world.old destination.now hard) reply world.new) }
+    ensures err { OnErr result (world.new ≡ world.old) }
 {
     let Some(t) = target(world, destination) else {
         return Ok(Reply::Refused(no_target(alloc, world, destination)?));
@@ -453,7 +457,8 @@ fn begin_resync(
     legs: PlainLegs,
 ) -> Result<(), PlainFault>
     requires { at < length world.old.relations }
-    ensures { OnOk result (world.new ≡ model.with_next_transfer world.old at (model.resynced (relation_at world.old at) base (model.new_transfer world.old.next_transfer Resync legs))) }
+    ensures ok { OnOk result (world.new ≡ model.with_next_transfer world.old at (model.resynced (relation_at world.old at) base (model.new_transfer world.old.next_transfer Resync legs))) }
+    ensures err { OnErr result (world.new ≡ world.old) }
 {
     let transfer = new_transfer(alloc, world.next_transfer, TransferKind::Resync, legs);
     let relation = resynced(relation(world, at), base, transfer);
@@ -469,7 +474,8 @@ fn resync_from(
     left: &[PlainSnapshot],
 ) -> Result<Reply, PlainFault>
     requires { at < length world.old.relations }
-    ensures { IfOk result (λ reply. Answers world.old (model.resync_from world.old at (relation_at world.old at) base left.now) reply world.new) }
+    ensures ok { IfOk result (λ reply. Answers world.old (model.resync_from world.old at (relation_at world.old at) base left.now) reply world.new) }
+    ensures err { OnErr result (world.new ≡ world.old) }
 {
     let legs = resync_legs(alloc, world, at, base, left)?;
     if let Err(refusal) = test_resync_room(alloc, world, at, left, &legs)? {
@@ -496,7 +502,8 @@ pub fn resync(
     alloc: Global,
     destination: &Path,
 ) -> Result<Reply, PlainFault>
-    ensures { IfOk result (λ reply. Answers world.old (model.resync world.old destination.now) reply world.new) }
+    ensures ok { IfOk result (λ reply. Answers world.old (model.resync world.old destination.now) reply world.new) }
+    ensures err { OnErr result (world.new ≡ world.old) }
 {
     let Some(t) = target(world, destination) else {
         return Ok(Reply::Refused(no_target(alloc, world, destination)?));

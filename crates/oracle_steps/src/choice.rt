@@ -20,7 +20,7 @@ use crate::running::running_in;
 use crate::shipping::{cost, shippable};
 use crate::values::PlainRunning;
 use oracle_lists::PlainSnapshot;
-use oracle_world::{PlainFault, PlainWorld, runs, small};
+use oracle_world::{PlainFault, PlainNumber, PlainWorld, runs, small};
 use sm_model::WorldRelation;
 use std::alloc::Global;
 
@@ -132,7 +132,9 @@ fn change_with(
     match &relation.transfer {
         None => Ok(None),
         Some(transfer) => match running_in(world, relation, transfer) {
-            None => Err(PlainFault::TooGreat),
+            None => Err(PlainFault::TooGreat {
+                number: PlainNumber::Place,
+            }),
             Some(x) => {
                 let kind = kind_due(alloc, &x)?;
                 change_for(alloc, world, &x, actor, kind)

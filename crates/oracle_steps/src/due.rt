@@ -1,5 +1,5 @@
 // Which kind of step is due for a running transfer.
-ghost use Rattle.std.specs.Prelude.{◌≡◌, ◌≤◌, ◌^◌, ◌&&◌, not, Some, IfOk, OnErr};
+ghost use Rattle.std.specs.Prelude.{◌≡◌, ◌≤◌, ◌&&◌, not, Some, IfOk, OnErr};
 ghost use Rattle.sm_defs.specs.Volume.{has};
 ghost use Rattle.sm_model.specs.Due.{is_unpruned, kind_for_leg, kind_at_source, reserved_leg, lacks_reserved, kind_for, kind_reverting, is_reverting, kind_due};
 ghost use Rattle.sm_model.specs.Steps.{snapshot_of};
@@ -10,7 +10,8 @@ use crate::kinds::PlainKind;
 use crate::shipping::{all_landed, at_checkpoint, cost, snapshot_of};
 use crate::values::PlainRunning;
 use oracle_lists::{PlainSnapshot, has_copy};
-use oracle_world::{PlainFault, is_rw};
+use oracle_world::{PlainFault, PlainNumber, is_rw};
+use sm_base::limits::LAST_NUMBER;
 use sm_base::{Ident, PolicyKind, TransferKind};
 use std::alloc::Global;
 
@@ -61,18 +62,20 @@ fn kind_at_source(
 /// The identity of the snapshot that a transfer makes itself.
 pub fn reserved_leg(x: &PlainRunning) -> Result<Ident, PlainFault>
     ensures leg { IfOk result (λ ident. ident ≡ reserved_leg (running_of x.now)) }
-    ensures great { OnErr result (2 ^ 62 ≤ (running_of x.now).transfer.number) }
+    ensures great { OnErr result (LAST_NUMBER ≤ (running_of x.now).transfer.number) }
 {
     let relation = x.relation;
     let transfer = x.transfer;
     let number = transfer.number;
-    if number < 1 << 62 {
+    if number < LAST_NUMBER {
         Ok(Ident {
             origin: relation.source.0,
             seq: 2 * number + 1,
         })
     } else {
-        Err(PlainFault::TooGreat)
+        Err(PlainFault::TooGreat {
+            number: PlainNumber::Transfer,
+        })
     }
 }
 

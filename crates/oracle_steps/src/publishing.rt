@@ -19,7 +19,8 @@ use crate::reverting::{dropped, family_of_transfer, has_other_family};
 use crate::shipping::landing;
 use crate::values::PlainRunning;
 use oracle_lists::{PlainSnapshot, copy_image, copy_snapshots, has_copy, retained, with_first};
-use oracle_world::{PlainFault, PlainVolume, PlainWorld, is_needed, is_rw};
+use oracle_world::{PlainFault, PlainNumber, PlainVolume, PlainWorld, is_needed, is_rw};
+use sm_base::limits::MOST_SNAPSHOTS;
 use sm_base::{Ident, NameFault, NoMemory, PolicyKind, Reason, SnapName, VolNo};
 use sm_model::{Reply, WorldPolicy, WorldRule, copy_label};
 use std::alloc::Global;
@@ -38,7 +39,9 @@ fn made_name(alloc: Global, relation: u32, transfer: u64) -> Result<SnapName, Pl
     match SnapName::read(alloc, text.as_bytes()) {
         Ok(name) => Ok(name),
         Err(NameFault::NoMemory) => Err(PlainFault::NoMemory),
-        Err(NameFault::BadName) => Err(PlainFault::TooGreat),
+        Err(NameFault::BadName) => Err(PlainFault::TooGreat {
+            number: PlainNumber::Name,
+        }),
     }
 }
 
@@ -98,7 +101,7 @@ fn prepare_reason(x: &PlainRunning) -> Option<Reason>
     let source = x.source;
     if !is_rw(source.kind) {
         Some(Reason::SourceReadOnly)
-    } else if source.snapshots.len() == 255 {
+    } else if source.snapshots.len() == MOST_SNAPSHOTS {
         Some(Reason::SnapFull)
     } else {
         None
@@ -281,7 +284,7 @@ fn published(
 fn publish_reason(x: &PlainRunning, count: usize) -> Option<Reason>
     ensures { result ≡ reason_of_count (running_of x.now) count }
 {
-    if count > 255 {
+    if count > MOST_SNAPSHOTS {
         Some(Reason::SnapFull)
     } else if has_other_family(x) {
         Some(Reason::OtherLayout)
@@ -387,7 +390,9 @@ pub(crate) fn tidy(
 {
     let at = volume as usize;
     if at >= world.volumes.len() {
-        return Err(PlainFault::TooGreat);
+        return Err(PlainFault::TooGreat {
+            number: PlainNumber::Place,
+        });
     }
     let there = &world.volumes[at];
     let stay = untidied_of(alloc, world, volume, &there.snapshots)?;

@@ -18,8 +18,10 @@ use oracle_lists::{
     without_copies,
 };
 use oracle_world::{
-    PlainFault, PlainVolume, PlainWorld, copy_transfer, holder, is_needed, small, with_transfer,
+    PlainFault, PlainNumber, PlainVolume, PlainWorld, copy_transfer, holder, is_needed, small,
+    with_transfer,
 };
+use sm_base::limits::FIRST_MADE_FAMILY;
 use sm_base::{Ident, Kind, NoMemory, PolicyKind, Reason};
 use sm_model::{Reply, WorldPolicy, WorldTransfer};
 use std::alloc::Global;
@@ -58,9 +60,11 @@ fn as_reverted(
 pub(crate) fn family_of_transfer(transfer: u64) -> Result<u64, PlainFault>
     ensures { IfOk result (λ family. family ≡ family_of_transfer transfer) }
 {
-    match transfer.checked_add(32) {
+    match transfer.checked_add(FIRST_MADE_FAMILY) {
         Some(family) => Ok(family),
-        None => Err(PlainFault::TooGreat),
+        None => Err(PlainFault::TooGreat {
+            number: PlainNumber::Transfer,
+        }),
     }
 }
 

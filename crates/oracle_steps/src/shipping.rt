@@ -13,6 +13,7 @@ use oracle_lists::{
     vault_cost, vault_landing,
 };
 use oracle_world::{PlainFault, free_tags, small};
+use sm_base::limits::WINDOW;
 use sm_base::{Ident, NoMemory, PolicyKind};
 use std::alloc::Global;
 
@@ -114,7 +115,7 @@ fn may_ship(x: &PlainRunning, cost: u32, index: u64) -> bool
     let transfer = x.transfer;
     !stands(&transfer.landed, index)
         && index < u64::from(cost)
-        && index < u64::from(transfer.checkpoint) + 64
+        && index < u64::from(transfer.checkpoint) + u64::from(WINDOW)
 }
 
 fn shippable_from(
@@ -142,7 +143,13 @@ pub fn shippable(alloc: Global, x: &PlainRunning, cost: u32) -> Result<Vec<u32>,
     ensures { IfOk result (λ all. all.items ≡ shippable (running_of x.now) cost) }
 {
     let transfer = x.transfer;
-    shippable_from(alloc, x, cost, 0, u64::from(transfer.checkpoint) + 64)
+    shippable_from(
+        alloc,
+        x,
+        cost,
+        0,
+        u64::from(transfer.checkpoint) + u64::from(WINDOW),
+    )
 }
 
 fn all_stand(landed: &[u32], from: u64, count: u64) -> bool
@@ -169,5 +176,5 @@ pub fn at_checkpoint(x: &PlainRunning, cost: u32) -> bool
 {
     let transfer = x.transfer;
     let prefix = landed_prefix(&transfer.landed) as u64;
-    prefix == u64::from(transfer.checkpoint) + 64 && prefix < u64::from(cost)
+    prefix == u64::from(transfer.checkpoint) + u64::from(WINDOW) && prefix < u64::from(cost)
 }

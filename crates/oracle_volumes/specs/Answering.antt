@@ -16,11 +16,6 @@ Answers old answer (replies.Refused refusal) new = (answer ≡ Err refusal) × (
 Answers old answer (replies.Bytes block) new = answer ≡ Ok (record { reply = bytes block.value.0; world = new })
 Answers old answer reply new = answer ≡ Ok (record { reply = told reply; world = new })
 
--- an answer comes, and the reply tells it
-abbrev pub IsAnswer : Up → Option Answer → Reply → Up → Type 0
-IsAnswer old None reply new = ⊥
-IsAnswer old (Some answer) reply new = Answers old answer reply new
-
 -- no reply where there is no answer, and else the reply that the answer tells
 abbrev pub IsReplied : Up → Option Answer → Option Reply → Up → Type 0
 IsReplied old None reply new = (reply ≡ None) × (new ≡ old)

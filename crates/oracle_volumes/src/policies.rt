@@ -1,5 +1,5 @@
 // What events on policies and the clock are answered.
-ghost use Rattle.std.specs.Prelude.{◌≡◌, ◌<◌, ◌==◌, length, IfOk, OnOk, Some, is_some};
+ghost use Rattle.std.specs.Prelude.{◌≡◌, ◌<◌, ◌==◌, length, IfOk, OnErr, OnOk, Some, is_some};
 ghost use Rattle.std.specs.List.{list_any};
 ghost use Rattle.std.specs.Str.{bytes_eq};
 ghost use Rattle.sm_base.specs.declared.refusal.Refusal.TheVariants as refusals;
@@ -12,7 +12,8 @@ ghost use Rattle.oracle_volumes.specs.Answering.{Answers};
 ghost use Rattle.sm_defs.specs.Rules.{first_rules, is_mirror_label, is_wrong_rule, is_bad_keep, with_rule};
 
 use oracle_lists::{has_rule_for, same_text};
-use oracle_world::{PlainFault, PlainWorld, policy_named};
+use oracle_world::{PlainFault, PlainNumber, PlainWorld, policy_named};
+use sm_base::limits::{MOST_KEPT, MOST_POLICIES, MOST_RULES};
 use sm_base::{Label, NameFault, NoMemory, Path1, PolicyKind, Refusal, What};
 use sm_model::{Reply, WorldPolicy, WorldRule};
 use std::alloc::Global;
@@ -41,7 +42,9 @@ fn label(alloc: Global, text: &[u8]) -> Result<Label, PlainFault>
     match Label::read(alloc, text) {
         Ok(label) => Ok(label),
         Err(NameFault::NoMemory) => Err(PlainFault::NoMemory),
-        Err(NameFault::BadName) => Err(PlainFault::TooGreat),
+        Err(NameFault::BadName) => Err(PlainFault::TooGreat {
+            number: PlainNumber::Name,
+        }),
     }
 }
 
@@ -63,7 +66,8 @@ fn first_rules(alloc: Global, kind: PolicyKind) -> Result<Vec<WorldRule>, PlainF
 }
 
 fn add_policy(world: &mut PlainWorld, policy: WorldPolicy) -> Result<(), NoMemory>
-    ensures { OnOk result (world.new ≡ model.with_new_policy world.old policy) }
+    ensures ok { OnOk result (world.new ≡ model.with_new_policy world.old policy) }
+    ensures err { OnErr result (world.new ≡ world.old) }
 {
     world.policies.push(policy)?;
     Ok(())
@@ -76,12 +80,13 @@ pub fn create_policy(
     name: &Path1,
     kind: PolicyKind,
 ) -> Result<Reply, PlainFault>
-    ensures { IfOk result (λ reply. Answers world.old (model.create_policy world.old name.now kind) reply world.new) }
+    ensures ok { IfOk result (λ reply. Answers world.old (model.create_policy world.old name.now kind) reply world.new) }
+    ensures err { OnErr result (world.new ≡ world.old) }
 {
     if is_name_taken(world, name) {
         return Ok(Reply::Refused(Refusal::NameTaken));
     }
-    if count_policies(world) == 32 {
+    if count_policies(world) == MOST_POLICIES {
         return Ok(Reply::Refused(Refusal::Full {
             what: What::Policies,
         }));
@@ -140,7 +145,7 @@ fn is_bad_keep(kind: PolicyKind, keep: u32) -> bool
 {
     match kind {
         PolicyKind::AsyncMirror => keep != 1,
-        PolicyKind::Vault => keep == 0 || keep > 251,
+        PolicyKind::Vault => keep == 0 || keep > MOST_KEPT,
     }
 }
 
@@ -173,7 +178,8 @@ fn count_rules(world: &PlainWorld, at: usize) -> usize
 }
 
 fn push_rule(policy: &mut WorldPolicy, rule: WorldRule) -> Result<(), NoMemory>
-    ensures { OnOk result (policy.new ≡ with_rule policy.old rule) }
+    ensures ok { OnOk result (policy.new ≡ with_rule policy.old rule) }
+    ensures err { OnErr result (policy.new ≡ policy.old) }
 {
     policy.rules.push(rule)?;
     Ok(())
@@ -181,7 +187,8 @@ fn push_rule(policy: &mut WorldPolicy, rule: WorldRule) -> Result<(), NoMemory>
 
 fn push_rule_at(world: &mut PlainWorld, at: usize, rule: WorldRule) -> Result<(), NoMemory>
     requires { at < length world.old.policies }
-    ensures { OnOk result (world.new ≡ model.with_policy world.old at (with_rule (policy_at world.old at) rule)) }
+    ensures ok { OnOk result (world.new ≡ model.with_policy world.old at (with_rule (policy_at world.old at) rule)) }
+    ensures err { OnErr result (world.new ≡ world.old) }
 {
     push_rule(&mut world.policies[at], rule)
 }
@@ -195,7 +202,8 @@ pub fn add_rule(
     keep: u32,
     preserve: bool,
 ) -> Result<Reply, PlainFault>
-    ensures { IfOk result (λ reply. Answers world.old (model.add_rule world.old name.now label.now keep preserve) reply world.new) }
+    ensures ok { IfOk result (λ reply. Answers world.old (model.add_rule world.old name.now label.now keep preserve) reply world.new) }
+    ensures err { OnErr result (world.new ≡ world.old) }
 {
     let Some(at) = place_of_policy(world, name) else {
         return refuse_policy(alloc, name);
@@ -209,7 +217,7 @@ pub fn add_rule(
     if has_rule(world, at, label) {
         return Ok(Reply::Refused(Refusal::RuleTaken));
     }
-    if count_rules(world, at) == 10 {
+    if count_rules(world, at) == MOST_RULES {
         return Ok(Reply::Refused(Refusal::RulesFull));
     }
     let rule = WorldRule {

@@ -1,10 +1,9 @@
 // What events on volumes and snapshots are answered.
-ghost use Rattle.std.specs.Prelude.{◌≡◌, ◌==◌, ◌||◌, ◌<◌, not, nat_le, length, IfOk, OnOk, MatchOption, slice_get, slice_set, suc, None, Some};
+ghost use Rattle.std.specs.Prelude.{◌≡◌, ◌==◌, ◌||◌, ◌<◌, not, nat_le, length, IfOk, OnErr, OnOk, MatchOption, slice_get, slice_set, suc, None, Some};
 ghost use Rattle.std.specs.List.{list_any, filter};
 ghost use Rattle.std.specs.Str.{bytes_eq};
 ghost use Rattle.sm_defs.specs.Words.{last_that, same_ident};
 ghost use Rattle.sm_defs.specs.Volume.{Snapshot, new_volume, used};
-ghost use Rattle.sm_base.specs.declared.limits.TheConstants.{MOST_SNAPSHOTS, LAST_NUMBER};
 ghost use Rattle.sm_defs.specs.World.{volume_at, with_volume};
 ghost use Rattle.sm_defs.specs.Needed.{holder};
 ghost use Rattle.sm_model.specs.OfVolumes as model;
@@ -17,8 +16,9 @@ use crate::pieces::{
 };
 use oracle_lists::{PlainBlock, PlainSnapshot, copy_image, hole, is_same, same_text};
 use oracle_world::{
-    PlainFault, PlainVolume, PlainWorld, free_tags, holder, small, snapshots_at, used,
+    PlainFault, PlainNumber, PlainVolume, PlainWorld, free_tags, holder, small, snapshots_at, used,
 };
+use sm_base::limits::{BLOCKS_START, LAST_NUMBER, MOST_SNAPSHOTS, MOST_VOLUMES};
 use sm_base::{Block, DiskNo, Ident, Kind, Label, NoMemory, Path, Refusal, SnapName, VolNo, What};
 use sm_model::{Reply, copy_label};
 use std::alloc::Global;
@@ -62,11 +62,12 @@ fn count_volumes(world: &PlainWorld) -> usize
 fn length_needed(physical: u32) -> u64
     ensures { result ≡ length_needed physical }
 {
-    25_726_976 + 4_096 * u64::from(physical)
+    BLOCKS_START + 4_096 * u64::from(physical)
 }
 
 fn add_volume(world: &mut PlainWorld, volume: PlainVolume) -> Result<(), NoMemory>
-    ensures { OnOk result (world.new ≡ model.with_new_volume world.old volume) }
+    ensures ok { OnOk result (world.new ≡ model.with_new_volume world.old volume) }
+    ensures err { OnErr result (world.new ≡ world.old) }
 {
     world.volumes.push(volume)?;
     Ok(())
@@ -107,7 +108,8 @@ pub fn create_volume(
     logical: u32,
     physical: u32,
 ) -> Result<Reply, PlainFault>
-    ensures { IfOk result (λ reply. Answers world.old (model.create_volume world.old path.now disk kind logical physical) reply world.new) }
+    ensures ok { IfOk result (λ reply. Answers world.old (model.create_volume world.old path.now disk kind logical physical) reply world.new) }
+    ensures err { OnErr result (world.new ≡ world.old) }
 {
     if is_path_taken(world, path) {
         return Ok(Reply::Refused(Refusal::NameTaken));
@@ -122,7 +124,7 @@ pub fn create_volume(
         return Ok(Reply::Refused(Refusal::DiskTaken));
     }
     let count = count_volumes(world);
-    if count == 32 {
+    if count == MOST_VOLUMES {
         return Ok(Reply::Refused(Refusal::Full {
             what: What::Volumes,
         }));
@@ -172,7 +174,8 @@ fn put_at(image: &mut [PlainBlock], place: u64, block: PlainBlock)
 }
 
 fn put_block(alloc: Global, volume: &mut PlainVolume, place: u64, fill: u8) -> Result<(), NoMemory>
-    ensures { OnOk result (volume.new ≡ model.written volume.old place fill) }
+    ensures ok { OnOk result (volume.new ≡ model.written volume.old place fill) }
+    ensures err { OnErr result (volume.new ≡ volume.old) }
 {
     let tag = first_of(&free_tags(alloc, volume)?);
     let block = full_block(alloc, tag, fill)?;
@@ -188,7 +191,8 @@ fn put_block_at(
     fill: u8,
 ) -> Result<(), NoMemory>
     requires { at < length world.old.volumes }
-    ensures { OnOk result (world.new ≡ with_volume world.old at (model.written (volume_at world.old at) place fill)) }
+    ensures ok { OnOk result (world.new ≡ with_volume world.old at (model.written (volume_at world.old at) place fill)) }
+    ensures err { OnErr result (world.new ≡ world.old) }
 {
     put_block(alloc, &mut world.volumes[at], place, fill)
 }
@@ -201,7 +205,8 @@ pub fn write(
     block: u64,
     fill: u8,
 ) -> Result<Reply, PlainFault>
-    ensures { IfOk result (λ reply. Answers world.old (model.write world.old path.now block fill) reply world.new) }
+    ensures ok { IfOk result (λ reply. Answers world.old (model.write world.old path.now block fill) reply world.new) }
+    ensures err { OnErr result (world.new ≡ world.old) }
 {
     let Some(at) = place_of(world, path) else {
         return refuse_path(alloc, path);
@@ -236,14 +241,16 @@ fn has_all_snapshots(world: &PlainWorld, at: usize) -> bool
     ensures { result ≡ ((length (volume_at world.now at).snapshots == MOST_SNAPSHOTS) || ((volume_at world.now at).next == LAST_NUMBER)) }
 {
     let volume = volume(world, at);
-    volume.snapshots.len() == 255 || volume.next == 1 << 62
+    volume.snapshots.len() == MOST_SNAPSHOTS || volume.next == LAST_NUMBER
 }
 
 fn following(next: u64) -> Result<u64, PlainFault>
     ensures { IfOk result (λ after. after ≡ suc next) }
 {
     if next == u64::MAX {
-        return Err(PlainFault::TooGreat);
+        return Err(PlainFault::TooGreat {
+            number: PlainNumber::Snapshot,
+        });
     }
     Ok(next + 1)
 }
@@ -253,7 +260,9 @@ fn client_ident(number: u32, volume: &PlainVolume) -> Result<Ident, PlainFault>
 {
     let next = volume.next;
     if next >= 1 << 63 {
-        return Err(PlainFault::TooGreat);
+        return Err(PlainFault::TooGreat {
+            number: PlainNumber::Snapshot,
+        });
     }
     Ok(Ident {
         origin: number,
@@ -269,7 +278,8 @@ fn take_snapshot(
     name: &SnapName,
     label: &Option<Label>,
 ) -> Result<Ident, PlainFault>
-    ensures { IfOk result (λ ident. (ident ≡ model.client_ident number volume.old) × (volume.new ≡ model.snapped number time volume.old name.now label.now)) }
+    ensures ok { IfOk result (λ ident. (ident ≡ model.client_ident number volume.old) × (volume.new ≡ model.snapped number time volume.old name.now label.now)) }
+    ensures err { OnErr result (volume.new ≡ volume.old) }
 {
     let ident = client_ident(number, volume)?;
     let stable = copy_image(alloc, &volume.active)?;
@@ -296,7 +306,8 @@ fn take_snapshot_at(
     label: &Option<Label>,
 ) -> Result<Ident, PlainFault>
     requires { at < length world.old.volumes }
-    ensures { IfOk result (λ ident. let v = volume_at world.old at in (ident ≡ model.client_ident at v) × (world.new ≡ with_volume world.old at (model.snapped at world.old.clock v name.now label.now))) }
+    ensures ok { IfOk result (λ ident. let v = volume_at world.old at in (ident ≡ model.client_ident at v) × (world.new ≡ with_volume world.old at (model.snapped at world.old.clock v name.now label.now))) }
+    ensures err { OnErr result (world.new ≡ world.old) }
 {
     let number = small(at)?;
     let time = world.clock;
@@ -311,7 +322,8 @@ pub fn snap(
     name: &SnapName,
     label: &Option<Label>,
 ) -> Result<Reply, PlainFault>
-    ensures { IfOk result (λ reply. Answers world.old (model.snap world.old path.now name.now label.now) reply world.new) }
+    ensures ok { IfOk result (λ reply. Answers world.old (model.snap world.old path.now name.now label.now) reply world.new) }
+    ensures err { OnErr result (world.new ≡ world.old) }
 {
     let Some(at) = place_of(world, path) else {
         return refuse_path(alloc, path);
@@ -392,7 +404,8 @@ pub fn unsnap(
     path: &Path,
     name: &SnapName,
 ) -> Result<Reply, PlainFault>
-    ensures { IfOk result (λ reply. Answers world.old (model.unsnap world.old path.now name.now) reply world.new) }
+    ensures ok { IfOk result (λ reply. Answers world.old (model.unsnap world.old path.now name.now) reply world.new) }
+    ensures err { OnErr result (world.new ≡ world.old) }
 {
     let Some(at) = place_of(world, path) else {
         return refuse_path(alloc, path);
@@ -411,7 +424,8 @@ pub fn unsnap(
 }
 
 fn make_point(alloc: Global, volume: &mut PlainVolume) -> Result<(), NoMemory>
-    ensures { OnOk result (volume.new ≡ operations.settled volume.old) }
+    ensures ok { OnOk result (volume.new ≡ operations.settled volume.old) }
+    ensures err { OnErr result (volume.new ≡ volume.old) }
 {
     volume.stable = copy_image(alloc, &volume.active)?;
     Ok(())
@@ -419,14 +433,16 @@ fn make_point(alloc: Global, volume: &mut PlainVolume) -> Result<(), NoMemory>
 
 fn make_point_at(alloc: Global, world: &mut PlainWorld, at: usize) -> Result<(), NoMemory>
     requires { at < length world.old.volumes }
-    ensures { OnOk result (world.new ≡ with_volume world.old at (operations.settled (volume_at world.old at))) }
+    ensures ok { OnOk result (world.new ≡ with_volume world.old at (operations.settled (volume_at world.old at))) }
+    ensures err { OnErr result (world.new ≡ world.old) }
 {
     make_point(alloc, &mut world.volumes[at])
 }
 
 /// A consistency point.
 pub fn cp(world: &mut PlainWorld, alloc: Global, path: &Path) -> Result<Reply, PlainFault>
-    ensures { IfOk result (λ reply. Answers world.old (model.cp world.old path.now) reply world.new) }
+    ensures ok { IfOk result (λ reply. Answers world.old (model.cp world.old path.now) reply world.new) }
+    ensures err { OnErr result (world.new ≡ world.old) }
 {
     let Some(at) = place_of(world, path) else {
         return refuse_path(alloc, path);
@@ -442,7 +458,9 @@ fn bytes_of(alloc: Global, block: &PlainBlock) -> Result<Box<Block>, PlainFault>
     ensures { IfOk result (λ copy. copy.value.0 ≡ block.now.bytes) }
 {
     if block.bytes.len() != 4_096 {
-        return Err(PlainFault::TooGreat);
+        return Err(PlainFault::TooGreat {
+            number: PlainNumber::Block,
+        });
     }
     let mut bytes = [0; 4_096];
     bytes.copy_from_slice(&block.bytes);

@@ -18,4 +18,4 @@ pub use finding::{
     kind_at, policy_kind_at, policy_named, relation_to, snapshots_at, volume_at, volume_named,
 };
 pub use needs::{holder, is_needed, needed_at_destination, needed_at_source, needed_for};
-pub use values::{PlainEdges, PlainFault, PlainVolume, PlainWorld, small};
+pub use values::{PlainEdges, PlainFault, PlainNumber, PlainVolume, PlainWorld, small};

@@ -64,15 +64,32 @@ pub enum PlainEdges {
     Mirrors,
 }
 
+/// A number of the world, or of an event, that is too great for where it goes.
+#[derive(Clone, Copy, Debug, PartialEq, Eq)]
+pub enum PlainNumber {
+    /// A count of volumes, relationships, policies, snapshots, legs or blocks: 2^32 or more.
+    Count,
+    /// The place of a volume, a policy or a snapshot, or the number of a relationship: none stands there.
+    Place,
+    /// The number of a volume's next snapshot: 2^63 or more.
+    Snapshot,
+    /// The number of a transfer: 2^62 or more.
+    Transfer,
+    /// The number of the next relationship: 2^32 - 1.
+    Relation,
+    /// Bytes of a block: another number than 4,096.
+    Block,
+    /// Bytes of a name or of a label: more than it may have.
+    Name,
+}
+
 /// Why a plain function gives no answer.
 #[derive(Clone, Copy, Debug, PartialEq, Eq)]
 pub enum PlainFault {
     /// There is no memory left for this call.
     NoMemory,
-    /// A number of the world is greater than what a reply, a list or a name can hold, a place in it is
-    /// past the last, or a block has not 4,096 bytes. No clause says when this does not come; the tests
-    /// meet none.
-    TooGreat,
+    /// This number is too great.
+    TooGreat { number: PlainNumber },
 }
 
 impl From<NoMemory> for PlainFault {
@@ -115,6 +132,8 @@ pub fn small(count: usize) -> Result<u32, PlainFault>
 {
     match u32::try_from(count) {
         Ok(number) => Ok(number),
-        Err(_) => Err(PlainFault::TooGreat),
+        Err(_) => Err(PlainFault::TooGreat {
+            number: PlainNumber::Count,
+        }),
     }
 }

@@ -137,7 +137,8 @@ fn the_first_line_creates_the_volume(rt: HostRuntime) -> Result<(), Fail> {
     Ok(())
 }
 
-const BAD_FIRST: [&str; 12] = [
+/// First lines that create no volume.
+const BAD_FIRST: [&str; 14] = [
     "\n",
     " volume create -path s:a -disk 1 -type rw -blocks 4 -physical 8\n",
     "volume create -path s:a -disk 1 -type rw -blocks 4 -physical 8 \n",
@@ -150,9 +151,12 @@ const BAD_FIRST: [&str; 12] = [
     "volume create -path s:a -disk 1 -type dp -blocks 4 -physical 8\n",
     "volume create -path s -disk 1 -type rw -blocks 4 -physical 8\n",
     "client write -path s:a -block 0 -fill 7\n",
+    "lab read -path s:a -block 0\n",
+    "volume create -path s:a -disk 2 -type rw -blocks 4 -physical 8\n",
 ];
 
-const BAD_LATER: [&str; 13] = [
+/// Second lines that have none of the forms of a command.
+const BAD_LATER: [&str; 28] = [
     "\n",
     "# a comment\n",
     "volume create -path s:b -disk 1 -type rw -blocks 4 -physical 8\n",
@@ -166,6 +170,21 @@ const BAD_LATER: [&str; 13] = [
     "snapshot create -path s:a -snapshot snapmirror.1\n",
     "lab read -path s:a -snapshot a:b -block 0\n",
     "lab read -path s:a -block +1\nlab nothing\n",
+    " \n",
+    "volume\n",
+    "client write  -path s:a -block 0 -fill 7\n",
+    "client write -path s:a -block 0 -fill 7 \n",
+    "client write -path s:a -block 0 -fill 7\r\n",
+    "client write -path s:a -block -1 -fill 7\n",
+    "client write -path sa -block 0 -fill 7\n",
+    "client write -path s:a -block 0 -count 2 -fill 7\n",
+    "snapshot create -path s:a -snapshot snapmirror.1.1\n",
+    "snapshot create -path s:a -snapshot a/b\n",
+    "snapshot create -path s:a -snapshot s1 -label daily\n",
+    "snapshot delete -path s:a -snapshot s1\n",
+    "lab read -path s:a -block 0 -snapshot s1\n",
+    "lab read -block 0\n",
+    "Lab read -path s:a -block 0\n",
 ];
 
 fn refused(line: u32) -> Option<ScriptFault> {

@@ -34,23 +34,26 @@ fn source_of<R: AllocGlobal>(rt: &R, text: &str) -> Result<MemSource, Fail> {
     Ok(MemSource::new(rt.alloc(), bytes, 4096))
 }
 
-/// Runs `lab` over a source and a sink, and compares the status and what the sink holds.
+/// Runs the program with these words over a source and a sink, and compares the status and what the sink holds.
 fn run_between<R: AllocGlobal + Abort>(
     rt: &R,
+    line: &str,
     source: &mut MemSource,
     sink: &mut MemSink,
     status: Status,
     output: &str,
 ) -> Result<(), Fail> {
     let mut words = Vec::new(rt.alloc());
-    words.push(String::from_str(rt.alloc(), "lab")?)?;
+    for word in line.split_whitespace() {
+        words.push(String::from_str(rt.alloc(), word)?)?;
+    }
     let (ended, _history) = run_lab(rt.alloc(), words, source, sink);
-    assert_eq!(rt; sink.bytes(), output.as_bytes());
-    assert_eq!(rt; ended, status);
+    assert_eq!(rt; sink.bytes(), output.as_bytes(), "at {line}");
+    assert_eq!(rt; ended, status, "at {line}");
     Ok(())
 }
 
-/// Runs `lab` over a script, and compares the status and the output.
+/// Runs the program over a script, and compares the status and the output.
 fn run_script<R: AllocGlobal + Abort>(
     rt: &R,
     script: &str,
@@ -59,7 +62,7 @@ fn run_script<R: AllocGlobal + Abort>(
 ) -> Result<(), Fail> {
     let mut source = source_of(rt, script)?;
     let mut sink = MemSink::new(rt.alloc(), 1 << 16, 4096)?;
-    run_between(rt, &mut source, &mut sink, status, output)
+    run_between(rt, "lab", &mut source, &mut sink, status, output)
 }
 
 #[test]
@@ -91,6 +94,7 @@ snapshot cre";
     let mut sink = MemSink::new(rt.alloc(), 4096, 4096)?;
     run_between(
         &rt,
+        "lab",
         &mut source,
         &mut sink,
         Status::ReadFault,
@@ -106,6 +110,7 @@ fn a_sink_that_fails_holds_a_front_of_the_output(rt: HostRuntime) -> Result<(), 
     sink.fail_at(2)?;
     run_between(
         &rt,
+        "lab",
         &mut source,
         &mut sink,
         Status::WriteFault,
@@ -115,6 +120,7 @@ fn a_sink_that_fails_holds_a_front_of_the_output(rt: HostRuntime) -> Result<(), 
     let mut sink = MemSink::new(rt.alloc(), 20, 16)?;
     run_between(
         &rt,
+        "lab",
         &mut source,
         &mut sink,
         Status::WriteFault,
@@ -132,78 +138,10 @@ fn other_words_are_usage(rt: HostRuntime) -> Result<(), Fail> {
         "lab run run",
         "lab run --workers 9",
     ] {
-        let mut words = Vec::new(rt.alloc());
-        for word in line.split_whitespace() {
-            words.push(String::from_str(rt.alloc(), word)?)?;
-        }
         let mut source = source_of(&rt, "")?;
         let mut sink = MemSink::new(rt.alloc(), 4096, 4096)?;
-        let (status, _history) = run_lab(rt.alloc(), words, &mut source, &mut sink);
-        assert_eq!(rt; status, Status::Usage, "at {line}");
-        assert_eq!(rt; sink.bytes(), b"usage: lab run\n".as_slice(), "at {line}");
-    }
-    Ok(())
-}
-
-/// Second lines that have none of the forms of a command.
-#[test]
-fn no_other_line_is_a_command(rt: HostRuntime) -> Result<(), Fail> {
-    let lines = [
-        "",
-        " ",
-        "volume",
-        "volume create -path s:b -disk 1 -type rw -blocks 4 -physical 8",
-        "client write -path s:a -block 0",
-        "client write -path s:a -fill 7 -block 0",
-        "client write  -path s:a -block 0 -fill 7",
-        "client write -path s:a -block 0 -fill 7 ",
-        "client write -path s:a -block 0 -fill 7\r",
-        "client write -path s:a -block 0 -fill 256",
-        "client write -path s:a -block 4294967296 -fill 7",
-        "client write -path s:a -block -1 -fill 7",
-        "client write -path sa -block 0 -fill 7",
-        "client write -path s:a -block 0 -count 2 -fill 7",
-        "snapshot create -path s:a -snapshot snapmirror.1.1",
-        "snapshot create -path s:a -snapshot a/b",
-        "snapshot create -path s:a -snapshot s1 -label daily",
-        "snapshot delete -path s:a -snapshot s1",
-        "lab read -path s:a -block 0 -snapshot s1",
-        "lab read -block 0",
-        "Lab read -path s:a -block 0",
-    ];
-    let bad = Status::BadLine {
-        line: 2,
-        kind: LineKind::UnknownCommand,
-    };
-    for line in lines {
-        let script = format!(in rt.alloc();
-            "volume create -path s:a -disk 1 -type rw -blocks 4 -physical 8\n{line}\nlab"
-        )?;
-        run_script(&rt, script.as_str(), bad, "bad line 2 UnknownCommand\n")?;
-    }
-    Ok(())
-}
-
-/// First lines that create no volume.
-#[test]
-fn the_first_line_creates_the_volume(rt: HostRuntime) -> Result<(), Fail> {
-    let lines = [
-        "\n",
-        "lab read -path s:a -block 0",
-        "volume create -path s:a -disk 2 -type rw -blocks 4 -physical 8",
-        "volume create -path s:a -disk 01 -type rw -blocks 4 -physical 8",
-        "volume create -path s:a -disk 1 -type dp -blocks 4 -physical 8",
-        "volume create -path s:a -disk 1 -type rw -blocks 0 -physical 8",
-        "volume create -path s:a -disk 1 -type rw -blocks 4097 -physical 8192",
-        "volume create -path s:a -disk 1 -type rw -blocks 4 -physical 3",
-        "volume create -path s:a -disk 1 -type rw -blocks 4 -physical 16385",
-    ];
-    let bad = Status::BadLine {
-        line: 1,
-        kind: LineKind::UnknownCommand,
-    };
-    for line in lines {
-        run_script(&rt, line, bad, "bad line 1 UnknownCommand\n")?;
+        let usage = "usage: lab run\n";
+        run_between(&rt, line, &mut source, &mut sink, Status::Usage, usage)?;
     }
     Ok(())
 }
@@ -301,7 +239,7 @@ fn a_script_has_a_greatest_length(rt: HostRuntime) -> Result<(), Fail> {
         let bytes = vec![in rt.alloc(); b'\n'; len]?;
         let mut source = MemSource::new(rt.alloc(), bytes, 1 << 16);
         let mut sink = MemSink::new(rt.alloc(), 4096, 4096)?;
-        run_between(&rt, &mut source, &mut sink, status, output)?;
+        run_between(&rt, "lab", &mut source, &mut sink, status, output)?;
     }
     Ok(())
 }

@@ -1,0 +1,125 @@
+// Which reason is told, what an abort leaves, and which step an actor takes.
+use crate::playing::{Course, play_courses};
+use crate::starts::CASCADE;
+use std::test::Fail;
+
+const COURSES: &[Course] = &[
+    Course {
+        // A source of another family that has lost what the destination needs: the need is named.
+        name: "of two reasons the need is named",
+        start: &[],
+        steps: &[
+            "volume s:z 1 rw 2 4 = ok volume=0",
+            "volume s:a 2 dp 2 4 = ok volume=1",
+            "volume s:b 3 dp 2 4 = ok volume=2",
+            "volume s:c 4 dp 2 4 = ok volume=3",
+            "policy v vault = ok",
+            "rule v d 1 keep = ok",
+            "policy m mirror = ok",
+            "relate s:z s:a v = ok relationship=1",
+            "relate s:a s:b m = ok relationship=2",
+            "relate s:b s:c m = ok relationship=3",
+            "snapshot s:z d1 d = ok id=0.2",
+            "initialize s:a = ok transfer=1 legs=1",
+            "settle = settled",
+            "initialize s:b = ok transfer=2 legs=1",
+            "settle = settled",
+            "initialize s:c = ok transfer=3 legs=1",
+            "settle = settled",
+            "snapshot s:z d2 d = ok id=0.4",
+            "update s:a = ok transfer=4 legs=1",
+            "work 0 = publish relationship=1 id=0.4 dropped=0",
+            "work 0 = settle relationship=1 base=0.4",
+            "update s:b = ok transfer=5 legs=1",
+            "settle = settled",
+            "break s:b = ok",
+            "snapshot s:z d3 d = ok id=0.6",
+            "update s:a = ok transfer=6 legs=1",
+            "work 0 = publish relationship=1 id=0.6 dropped=1",
+            "work 0 = settle relationship=1 base=0.6",
+            "resync s:b = ok transfer=7 common=0.4 legs=1",
+            "break s:a = ok",
+            "resync s:a = ok transfer=8 common=0.6 legs=0",
+            "work 0 = revert relationship=1 dropped=0",
+            "work 0 = settle relationship=1 base=0.6 ended",
+            "work 0 = revert relationship=2 dropped=0",
+            "work 0 = interrupted relationship=2 reason=HeldDownstream id=0.2 by=3",
+        ],
+    },
+    Course {
+        // A restart takes the place of any other reason.
+        name: "a stopped transfer tells why",
+        start: CASCADE,
+        steps: &[
+            "delete s:c = ok",
+            "release s:b s:c = ok",
+            "update s:b = ok transfer=3 legs=1",
+            "abort s:b = ok checkpoint=0",
+            "break s:b = refused Transferring",
+            "relationships = ok lines=1\n  relationship 1 s:a s:b policy=m state=snapmirrored status=idle base=0.3 transfer=3:Aborted",
+            "restart = ok",
+            "relationships = ok lines=1\n  relationship 1 s:a s:b policy=m state=snapmirrored status=idle base=0.3 transfer=3:Restart",
+        ],
+    },
+    Course {
+        // What is published is settled first: behind the last leg the transfer is gone, else it keeps nothing.
+        name: "an abort settles what is published",
+        start: &[],
+        steps: &[
+            "volume s:a 1 rw 2 6 = ok volume=0",
+            "volume s:b 2 dp 2 6 = ok volume=1",
+            "policy w mirror = ok",
+            "rule w all_source_snapshots 1 keep = ok",
+            "relate s:a s:b w = ok relationship=1",
+            "write s:a 0 1 = ok",
+            "snapshot s:a x - = ok id=0.2",
+            "initialize s:b = ok transfer=1 legs=2",
+            "work 0 = prepare relationship=1 id=0.3",
+            "work 0 = prune relationship=1 dropped=0",
+            "work 0 = ship relationship=1 index=0 cost=1",
+            "work 0 = publish relationship=1 id=0.2 dropped=0",
+            "abort s:b = ok checkpoint=0",
+            "relationships = ok lines=1\n  relationship 1 s:a s:b policy=w state=snapmirrored status=idle base=0.2 transfer=1:Aborted",
+            "update s:b = ok transfer=1 resumed=0",
+            "work 0 = prune relationship=1 dropped=0",
+            "work 0 = publish relationship=1 id=0.3 dropped=0",
+            "abort s:b = ok ended",
+            "relationships = ok lines=1\n  relationship 1 s:a s:b policy=w state=snapmirrored status=idle base=0.3 transfer=-",
+        ],
+    },
+    Course {
+        // Of two running transfers and three missing blocks each, by the numbers of the actors.
+        name: "actors take steps by their numbers",
+        start: &[],
+        steps: &[
+            "volume s:a 1 rw 4 8 = ok volume=0",
+            "volume s:b 2 dp 4 8 = ok volume=1",
+            "volume s:c 3 dp 4 8 = ok volume=2",
+            "policy m mirror = ok",
+            "relate s:a s:b m = ok relationship=1",
+            "relate s:a s:c m = ok relationship=2",
+            "each 0 3 write s:a # #+1 = ok",
+            "initialize s:b = ok transfer=1 legs=1",
+            "initialize s:c = ok transfer=2 legs=1",
+            "work 1 = prepare relationship=2 id=0.5",
+            "work 2 = prepare relationship=1 id=0.3",
+            "work 3 = prune relationship=2 dropped=0",
+            "work 5 = ship relationship=2 index=2 cost=3",
+            "work 7 = ship relationship=2 index=1 cost=3",
+            "abort s:c = ok checkpoint=0",
+            "initialize s:c = ok transfer=2 resumed=0",
+            "work 1 = prune relationship=2 dropped=0",
+            "work 1 = ship relationship=2 index=1 cost=3",
+            "work 3 = ship relationship=2 index=2 cost=3",
+            "work 1 = ship relationship=2 index=0 cost=3",
+            "abort s:c = ok checkpoint=3",
+            "initialize s:c = ok transfer=2 resumed=3",
+            "work 1 = publish relationship=2 id=0.5 dropped=0",
+        ],
+    },
+];
+
+#[test]
+fn courses(rt: HostRuntime) -> Result<(), Fail> {
+    play_courses(&rt, COURSES)
+}
