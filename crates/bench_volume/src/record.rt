@@ -3,8 +3,8 @@ use crate::volume::Size;
 use sm_base::{Failed, NoMemory};
 use sm_disk::Disk;
 use sm_memdisk::MemDisk;
-use sm_root::encode;
-use sm_slots::{SLOTS_END, slot_start_of};
+use sm_root::{RECORD_SNAPSHOTS, encode};
+use sm_slots::{SLOT_LEN, SLOTS_END, slot_start_of};
 use std::alloc::Global;
 use volume_store::{Store, VolumeFault};
 
@@ -26,7 +26,7 @@ pub fn encode_often(
 // Writes a record and its selector, as a commit does.
 fn write_record(disk: &mut MemDisk, slot: u8, bytes: &[u8]) -> Result<(), Failed> {
     let start = slot_start_of(slot % 2);
-    if disk.len() < SLOTS_END || bytes.len() > 4_456_448 {
+    if disk.len() < SLOTS_END || bytes.len() > SLOT_LEN {
         return Err(Failed);
     }
     disk.write(start, bytes)?;
@@ -37,7 +37,7 @@ fn write_record(disk: &mut MemDisk, slot: u8, bytes: &[u8]) -> Result<(), Failed
 
 // The length of a root's record, to a few bytes.
 fn record_len(size: Size, snapshots: u32) -> usize {
-    4 * size.logical() as usize * (snapshots.min(255) as usize + 1)
+    4 * size.logical() as usize * (snapshots.min(RECORD_SNAPSHOTS) as usize + 1)
 }
 
 fn sevens(alloc: Global, len: usize) -> Result<Vec<u8>, NoMemory> {

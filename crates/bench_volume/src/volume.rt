@@ -1,6 +1,7 @@
 // The calls of a volume.
 ghost use Rattle.std.specs.Prelude.{◌≡◌, true, OnOk};
 
+use sm_base::limits::{BLOCKS_START, DISK_LENGTH, MOST_LOGICAL, MOST_PHYSICAL};
 use sm_base::{Block, Ident, Kind, NameFault, NoMemory, SnapName, VolNo};
 use sm_memdisk::MemDisk;
 use std::alloc::Global;
@@ -20,15 +21,15 @@ impl Size {
     pub fn logical(self) -> u32 {
         match self {
             Size::Small => 4,
-            Size::Large => 4096,
+            Size::Large => MOST_LOGICAL,
         }
     }
 
     /// The length of the disk.
     pub fn disk_len(self) -> u64 {
         match self {
-            Size::Small => 25_792_512,
-            Size::Large => 92_835_840,
+            Size::Small => BLOCKS_START + 16 * 4096,
+            Size::Large => DISK_LENGTH,
         }
     }
 }
@@ -38,7 +39,7 @@ pub fn empty(alloc: Global, size: Size) -> Result<Store<MemDisk>, VolumeFault> {
     let disk = MemDisk::new(alloc, size.disk_len())?;
     let made = match size {
         Size::Small => Store::create(alloc, disk, VolNo(1), Kind::Rw, 4, 16),
-        Size::Large => Store::create(alloc, disk, VolNo(1), Kind::Rw, 4096, 16384),
+        Size::Large => Store::create(alloc, disk, VolNo(1), Kind::Rw, MOST_LOGICAL, MOST_PHYSICAL),
     };
     match made {
         Ok(volume) => Ok(volume),

@@ -3,17 +3,20 @@ use Rattle.std.proofs.Common.{◌≡◌, inl, inr, ℕ, suc, ◌<◌, ◌≤◌,
 use Rattle.sm_base.specs.declared.numbers.Ident.{Ident}
 use Rattle.sm_base.specs.declared.numbers.Side.{Side}
 use Rattle.sm_base.specs.declared.numbers.Side.TheVariants.{Before, After}
-use Rattle.sm_defs.specs.Image.{Block, full_block}
+use Rattle.sm_base.specs.declared.numbers.Block.{Block as Bytes}
+use Rattle.sm_defs.specs.Image.{Block}
 use Rattle.std.specs.Prelude.{Vec}
 use Rattle.std.specs.declared.alloc.Global.{Global}
 use Rattle.std.proofs.Math.Seq.{drop-cons}
 use Rattle.std.proofs.lemmas.List.{take-append-drop, take_all, append-nil}
 use Rattle.sm_defs.specs.Volume.{Volume, has}
 use Rattle.sm_volume.specs.Seen.{image_of}
+use Rattle.sm_disk.specs.Image as disk
 use Rattle.sm_disk.specs.Disk.{DiskState}
 use Rattle.volume_store.specs.declared.faults.VolumeFault.{VolumeFault}
 use Rattle.volume_store.specs.declared.faults.VolumeFault.TheVariants.{DiskFault, NoSnapshot, NameTaken, NoMemory as OutOfMemory}
-use Rattle.volume_store.specs.declared.head.Head.{Head}
+use Rattle.sm_root.specs.declared.head.Head.{Head}
+use Rattle.volume_store.specs.declared.io.View.{View}
 use Rattle.volume_store.specs.Held.{block_at}
 use Rattle.volume_store.specs.Refusals.{Refuses, RefusesOrFails}
 use Rattle.sm_volume.specs.Mounted.{Mounted, opened, of_side, bare}
@@ -21,8 +24,8 @@ use Rattle.sm_volume.specs.Restarted.{IsRestarted}
 use Rattle.sm_volume.specs.Shown.{KeepsBlocks, SameBlocks, NoBlock}
 use Rattle.sm_volume.specs.Commits.{Commits}
 use Rattle.sm_volume.specs.Assigned.{IsReverted, snapped, adopted, snapshot_of}
-use Rattle.sm_defs.specs.Operations.{IsLeastFree, written}
-use Rattle.sm_volume.specs.Refusals.{write_refusal, revert_refusal, snapshot_refusal, adopt_refusal}
+use Rattle.sm_defs.specs.Operations.{IsLeastFree, least_free, written}
+use Rattle.sm_volume.specs.Refusals.{write_refusal, read_refusal, revert_refusal, snapshot_refusal, adopt_refusal}
 use Rattle.laws_volume.specs.declared.call.Call.{Call}
 use Rattle.laws_volume.specs.declared.call.Call.TheVariants as calls
 use Rattle.laws_volume.specs.Assigned.{Plain, plain, Assigns, AssignsAll, AreReady, AskNothing}
@@ -57,43 +60,64 @@ refused_done state call old new r fault why same answers = record {
   told = ap (λ v. (state v.disk).told) same;
 }
 
-full_bytes : (b : Block) (fill : ℕ) → b.bytes ≡ replicate 4096 fill → b ≡ full_block b.tag fill
-unfolding full_block
-full_bytes b fill h = ap (λ (bs : List ℕ). let c : Block = record { tag = b.tag; bytes = bs } in c) h
-
-put_bytes : (n fill : ℕ) (bytes : List ℕ) → bytes ≡ replicate 4096 fill → bytes ≡ (full_block n fill).bytes
-unfolding full_block
-put_bytes n fill bytes h = h
-
 abbrev pub IsWritten : {D : Type 0} → (D → DiskState) → ℕ → List ℕ → Mounted D → Mounted D → Type 0
 IsWritten state at bytes old new =
     (b : Block) × IsLeastFree old.volume b.tag × (new ≡ record old { disk = new.disk; volume = written old.volume at b })
     × (IsTrue (state old.disk).told → b.bytes ≡ bytes)
     × (IsTrue (state old.disk).told → block_at (state new.disk).seen b.tag ≡ bytes)
+    × (b.tag ≡ least_free old.volume)
 
-pub done_write : {D : Type 0} (state : D → DiskState) (at fill : ℕ) (bytes : List ℕ) (old new : Mounted D) (r : Result (Unit {0}) VolumeFault) → bytes ≡ replicate 4096 fill → old.up ≡ true
-    → RefusesOrFails (write_refusal old.volume at) r → OnOk r (IsWritten state at bytes old new) → ((n : ℕ) → IsLeastFree old.volume n → KeepsBlocks (λ k. k ≡ n) (state old.disk) (state new.disk))
-    → (state new.disk).told ≡ (state old.disk).told → IsDone state (calls.Write at fill) old r new
+pub done_write : {D : Type 0} (state : D → DiskState) (at : ℕ) (block : Bytes) (old new : Mounted D) (r : Result (Unit {0}) VolumeFault) → old.up ≡ true
+    → RefusesOrFails (write_refusal old.volume at) r → OnOk r (IsWritten state at block.0 old new) → ((n : ℕ) → IsLeastFree old.volume n → KeepsBlocks (λ k. k ≡ n) (state old.disk) (state new.disk))
+    → (state new.disk).told ≡ (state old.disk).told → IsDone state (calls.Write at block) old r new
 unfolding Assigns Answers
-done_write state at fill bytes old new (Ok u) is up refused ok blocks told = record {
+done_write state at block old new (Ok u) up refused ok blocks told = record {
   answers = refused;
-  assigned = (ok.0, ok.1, λ t. full_bytes ok.0 fill (ok.3 t ∙ is), λ t. ok.4 t ∙ sym (ok.3 t), ap (λ v. v.volume) ok.2, (blocks ok.0.tag ok.1).seen);
+  assigned = (ok.0, ok.1, ok.3, λ t. ok.4 t ∙ sym (ok.3 t), ap (λ v. v.volume) ok.2, (blocks ok.0.tag ok.1).seen);
   up = ap (λ v. v.up) ok.2 ∙ up;
   told = told;
 }
-done_write state at fill bytes old new (Err x) is up refused ok blocks told = record { answers = refused; assigned = tt; up = tt; told = told }
+done_write state at block old new (Err x) up refused ok blocks told = record { answers = refused; assigned = tt; up = tt; told = told }
 
-pub done_land : {D : Type 0} (state : D → DiskState) (n fill : ℕ) (bytes : List ℕ) (old new : Mounted D) (r : Result (Unit {0}) VolumeFault) → bytes ≡ replicate 4096 fill → old.up ≡ true
-    → OnErr r (r ≡ Err DiskFault) → OnOk r (new ≡ record old { disk = new.disk }) → OnOk r (IsTrue (state old.disk).told → block_at (state new.disk).seen n ≡ bytes) → KeepsBlocks (λ k. k ≡ n) (state old.disk) (state new.disk)
-    → IsDone state (calls.Land n fill) old r new
+pub done_land : {D : Type 0} (state : D → DiskState) (n : ℕ) (block : Bytes) (old new : Mounted D) (r : Result (Unit {0}) VolumeFault) → old.up ≡ true
+    → OnErr r (r ≡ Err DiskFault) → OnOk r (new ≡ record old { disk = new.disk }) → OnOk r (IsTrue (state old.disk).told → block_at (state new.disk).seen n ≡ block.0) → KeepsBlocks (λ k. k ≡ n) (state old.disk) (state new.disk)
+    → IsDone state (calls.Land n block) old r new
 unfolding Assigns Answers
-done_land state n fill bytes old new (Ok u) is up refused ok block kept = record {
+done_land state n block old new (Ok u) up refused ok here kept = record {
   answers = refused;
-  assigned = (ap (λ v. v.volume) ok, record { here = λ t. put_bytes n fill (block_at (state new.disk).seen n) (block t ∙ is); others = kept.seen });
+  assigned = (ap (λ v. v.volume) ok, record { here = here; others = kept.seen });
   up = ap (λ v. v.up) ok ∙ up;
   told = kept.any_moment.told;
 }
-done_land state n fill bytes old new (Err x) is up refused ok block kept = record { answers = refused; assigned = tt; up = tt; told = kept.any_moment.told }
+done_land state n block old new (Err x) up refused ok here kept = record { answers = refused; assigned = tt; up = tt; told = kept.any_moment.told }
+
+-- a call that changes neither the volume nor what its disk reads
+same_plain : {D : Type 0} (state : D → DiskState) (old new : Mounted D) → new ≡ record old { disk = new.disk } → (state new.disk).seen ≡ (state old.disk).seen → plain state new ≡ plain state old
+same_plain state old new is seen =
+    let build : Volume → disk.Image → Plain = λ v c. record { volume = v; reads = c } in
+    ap (λ (v : Volume). build v (state new.disk).seen) (ap (λ v. v.volume) is) ∙ ap (λ (c : disk.Image). build old.volume c) seen
+
+unchanged : {D : Type 0} (state : D → DiskState) (old new : Mounted D) (r : Result (Unit {0}) VolumeFault) → OnOk r (new ≡ record old { disk = new.disk }) → (state new.disk).seen ≡ (state old.disk).seen → OnOk r (plain state new ≡ plain state old)
+unchanged state old new (Ok u) is seen = same_plain state old new is seen
+unchanged state old new (Err x) is seen = tt
+
+still_up : {D : Type 0} (old new : Mounted D) (r : Result (Unit {0}) VolumeFault) → old.up ≡ true → OnOk r (new ≡ record old { disk = new.disk }) → OnOk r (new.up ≡ true)
+still_up old new (Ok u) up is = ap (λ v. v.up) is ∙ up
+still_up old new (Err x) up is = tt
+
+module _ {D : Type 0} (state : D → DiskState) (old new : Mounted D) (r : Result (Unit {0}) VolumeFault) (up : old.up ≡ true) (ok : OnOk r (new ≡ record old { disk = new.disk }))
+    (seen : (state new.disk).seen ≡ (state old.disk).seen) (told : (state new.disk).told ≡ (state old.disk).told) where
+  pub done_sync : OnErr r (r ≡ Err DiskFault) → IsDone state calls.Sync old r new
+  unfolding Assigns Answers
+  done_sync refused = record { answers = refused; assigned = unchanged state old new r ok seen; up = still_up old new r up ok; told = told }
+
+  pub done_fetch : (n : ℕ) → OnErr r (r ≡ Err DiskFault) → IsDone state (calls.Fetch n) old r new
+  unfolding Assigns Answers
+  done_fetch n refused = record { answers = refused; assigned = unchanged state old new r ok seen; up = still_up old new r up ok; told = told }
+
+  pub done_read : (view : View) (at : ℕ) → RefusesOrFails (read_refusal old.volume view at) r → IsDone state (calls.Read view at) old r new
+  unfolding Assigns Answers
+  done_read view at refused = record { answers = refused; assigned = unchanged state old new r ok seen; up = still_up old new r up ok; told = told }
 
 revert_done : {D : Type 0} (state : D → DiskState) (ident : Ident) (drop_newer : Bool) (family : ℕ) (old new : Mounted D) (r : Result (Unit {0}) VolumeFault) (b : Bool) → has old.volume.snapshots ident ≡ b → old.up ≡ true
     → Refuses (revert_refusal old.volume ident) r → (r ≡ Err NoSnapshot → new ≡ old)
@@ -118,22 +142,20 @@ pub done_revert : {D : Type 0} (state : D → DiskState) (ident : Ident) (drop_n
 done_revert state ident drop_newer family old new r up refused unchanged commits = revert_done state ident drop_newer family old new r (has old.volume.snapshots ident) refl up refused unchanged commits
 
 -- a snapshot of the identity stands
-pub done_taken : {D : Type 0} (state : D → DiskState) (ident : Ident) (name : List ℕ) (label : Option (List ℕ)) (time : ℕ) (old : Mounted D) → has old.volume.snapshots ident ≡ true → IsDone state (calls.Snapshot ident name label time) old (Err NameTaken) old
+pub done_taken : {D : Type 0} (state : D → DiskState) (head : Head) (old : Mounted D) → has old.volume.snapshots head.ident ≡ true → IsDone state (calls.Snapshot head) old (Err NameTaken) old
 unfolding Assigns Answers
-done_taken state ident name label time old e = record {
-  answers = inl (subst (λ (b : Bool). Refuses (cond b (Some NameTaken) (snapshot_refusal old.volume ident name)) (Err NameTaken)) (sym e) refl);
+done_taken state head old e = record {
+  answers = inl (subst (λ (b : Bool). Refuses (cond b (Some NameTaken) (snapshot_refusal old.volume head.ident head.name)) (Err NameTaken)) (sym e) refl);
   assigned = tt;
   up = tt;
   told = refl;
 }
 
-pub done_snapshot : {D : Type 0} (state : D → DiskState) (h k : Head) (old new : Mounted D) (r : Result (Unit {0}) VolumeFault) → h ≡ k → k.made ≡ 0 → old.up ≡ true → has old.volume.snapshots k.ident ≡ false
-    → Refuses (snapshot_refusal old.volume h.ident h.name) r → Commits state old (snapped old.volume h) r new → IsDone state (calls.Snapshot k.ident k.name k.label k.time) old r new
+pub done_snapshot : {D : Type 0} (state : D → DiskState) (h k : Head) (old new : Mounted D) (r : Result (Unit {0}) VolumeFault) → h ≡ k → old.up ≡ true → has old.volume.snapshots k.ident ≡ false
+    → Refuses (snapshot_refusal old.volume h.ident h.name) r → Commits state old (snapped old.volume h) r new → IsDone state (calls.Snapshot k) old r new
 unfolding Assigns Answers
-done_snapshot state h k old new r is made up stands refused commits =
-    let client : Head = record { ident = k.ident; name = k.name; label = k.label; time = k.time; made = 0 } in
-    let same : h ≡ client = is ∙ ap (λ (n : ℕ). let x : Head = record k { made = n } in x) made in
-    done_commit state (calls.Snapshot k.ident k.name k.label k.time) old new (snapped old.volume client) r up (subst (λ (x : Head). Commits state old (snapped old.volume x) r new) same commits)
+done_snapshot state h k old new r is up stands refused commits =
+    done_commit state (calls.Snapshot k) old new (snapped old.volume k) r up (subst (λ (x : Head). Commits state old (snapped old.volume x) r new) is commits)
     (inl (subst (λ (b : Bool). Refuses (cond b (Some NameTaken) (snapshot_refusal old.volume k.ident k.name)) r) (sym stands) (subst (λ (x : Head). Refuses (snapshot_refusal old.volume x.ident x.name) r) is refused))) (λ x. x)
 
 abbrev pub SameSide : Result Side VolumeFault → Result Side VolumeFault → Type 0
@@ -142,9 +164,9 @@ SameSide x y = x ≡ y
 pub same_fault : (f : VolumeFault) → SameSide (Err f) (Err DiskFault) → f ≡ DiskFault
 same_fault f e = cc
 
-pub no_memory_snapshot : {D : Type 0} (state : D → DiskState) (ident : Ident) (name : List ℕ) (label : Option (List ℕ)) (time : ℕ) (old : Mounted D) → IsDone state (calls.Snapshot ident name label time) old (Err OutOfMemory) old
+pub no_memory_snapshot : {D : Type 0} (state : D → DiskState) (head : Head) (old : Mounted D) → IsDone state (calls.Snapshot head) old (Err OutOfMemory) old
 unfolding Assigns Answers
-no_memory_snapshot state ident name label time old = record { answers = inr refl; assigned = tt; up = tt; told = refl }
+no_memory_snapshot state head old = record { answers = inr refl; assigned = tt; up = tt; told = refl }
 
 pub no_memory_adopt : {D : Type 0} (state : D → DiskState) (head : Head) (map : Vec ℕ Global) (family : ℕ) (drops : Vec Ident Global) (old : Mounted D) → IsDone state (calls.Adopt head map family drops) old (Err OutOfMemory) old
 unfolding Assigns Answers

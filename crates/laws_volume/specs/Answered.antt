@@ -6,7 +6,7 @@ use Rattle.volume_store.specs.declared.faults.VolumeFault.TheVariants.{NameTaken
 use Rattle.volume_store.specs.Refusals.{Refuses, RefusesOrFails}
 use Rattle.sm_volume.specs.Seen.{image_of}
 use Rattle.sm_volume.specs.Assigned.{snapshot_of}
-use Rattle.sm_volume.specs.Refusals.{cp_refusal, snapshot_refusal, remove_refusal, adopt_refusal, write_refusal, revert_refusal}
+use Rattle.sm_volume.specs.Refusals.{cp_refusal, snapshot_refusal, remove_refusal, adopt_refusal, write_refusal, read_refusal, revert_refusal}
 use Rattle.laws_volume.specs.declared.call.Call as the_call
 use Rattle.laws_volume.specs.declared.call.Call.TheVariants as calls
 use Rattle.sm_disk.specs.Disk.{DiskState}
@@ -19,14 +19,17 @@ OrNoMemory refusal result = Refuses refusal result ⊎ (result ≡ Err OutOfMemo
 
 -- Which refusal a call answers: exactly where it stands. A snapshot of an identity that the volume has is refused here.
 unfoldable pub Answers : the_call.Call → Plain → Result (Unit {0}) VolumeFault → Type 0
-Answers (calls.Write at fill) old result = RefusesOrFails (write_refusal old.volume at) result
+Answers (calls.Write at block) old result = RefusesOrFails (write_refusal old.volume at) result
 Answers calls.ConsistencyPoint old result = Refuses (cp_refusal old.volume) result
-Answers (calls.Snapshot ident name label time) old result = OrNoMemory (cond (has old.volume.snapshots ident) (Some NameTaken) (snapshot_refusal old.volume ident name)) result
+Answers (calls.Snapshot head) old result = OrNoMemory (cond (has old.volume.snapshots head.ident) (Some NameTaken) (snapshot_refusal old.volume head.ident head.name)) result
 Answers (calls.Remove drops) old result = Refuses (remove_refusal old.volume drops.items) result
 Answers calls.MakeWritable old result = Refuses None result
 Answers (calls.Revert ident drop_newer family) old result = Refuses (revert_refusal old.volume ident) result
-Answers (calls.Land number fill) old result = RefusesOrFails None result
+Answers (calls.Land number block) old result = RefusesOrFails None result
 Answers (calls.Adopt head map family drops) old result = OrNoMemory (adopt_refusal old.volume (snapshot_of head (image_of old.reads map.items)) drops.items) result
+Answers calls.Sync old result = RefusesOrFails None result
+Answers (calls.Fetch number) old result = RefusesOrFails None result
+Answers (calls.Read view at) old result = RefusesOrFails (read_refusal old.volume view at) result
 Answers calls.Restart old result = RefusesOrFails None result
 
 -- the first call that is not answered Ok gives the answer

@@ -1,22 +1,19 @@
-use sm_base::{Ident, Label, SnapName};
-use volume_store::Head;
+use sm_base::{Block, Ident};
+use sm_volume::{Head, View};
 
-/// A call that changes a volume.
-#[derive(Debug, Drop)]
+/// A call of a volume.
+#[derive(Drop)]
 pub enum Call {
-    /// Writes 4,096 bytes of `fill` at a place of the active image.
+    /// Writes a block at a place of the active image.
     Write {
         at: u32,
-        fill: u8,
+        block: Block,
     },
     /// The active image becomes the stable one.
     ConsistencyPoint,
-    /// A consistency point, and a client's snapshot of it at a time in seconds since 1970.
+    /// A consistency point, and a snapshot of it.
     Snapshot {
-        ident: Ident,
-        name: SnapName,
-        label: Option<Label>,
-        time: u64,
+        head: Head,
     },
     /// Drops the snapshots of these identities.
     Remove {
@@ -30,10 +27,10 @@ pub enum Call {
         drop_newer: bool,
         family: u64,
     },
-    /// Writes 4,096 bytes of `fill` at a physical block that is free.
+    /// Writes a block at a number that is free.
     Land {
         number: u32,
-        fill: u8,
+        block: Block,
     },
     /// Takes over an image whose blocks have landed at the numbers of `map`.
     Adopt {
@@ -41,6 +38,17 @@ pub enum Call {
         map: Vec<u32>,
         family: u64,
         drops: Vec<Ident>,
+    },
+    /// Puts onto the medium all that was written.
+    Sync,
+    /// Reads the block of a number that is used.
+    Fetch {
+        number: u32,
+    },
+    /// Reads a block of the active image or of a snapshot's.
+    Read {
+        view: View,
+        at: u32,
     },
     /// The disk restarts, and the stable image becomes the active one.
     Restart,

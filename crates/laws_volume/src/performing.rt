@@ -1,19 +1,19 @@
 ghost use Rattle.std.specs.Prelude.{◌≡◌, true, IfOk};
 ghost use Rattle.laws_volume.specs.Assigned.{plain, IsReady, AreReady};
 ghost use Rattle.laws_volume.specs.Answered.{IsDone, AreDone};
-ghost use Rattle.laws_volume.specs.declared.call.Call.TheVariants.{Write, ConsistencyPoint, Snapshot, Remove, MakeWritable, Revert, Land, Adopt, Restart};
+ghost use Rattle.laws_volume.specs.declared.call.Call.TheVariants.{Write, ConsistencyPoint, Snapshot, Remove, MakeWritable, Revert, Land, Adopt, Sync, Fetch, Read, Restart};
 
 use crate::call::Call;
-use sm_base::{Block, Ident, Label, NoMemory, SnapName};
+use sm_base::{Block, Ident, NoMemory};
 use sm_disk::Disk;
-use sm_volume::{Head, Volume, VolumeFault};
+use sm_volume::{Head, View, Volume, VolumeFault};
 use std::alloc::Global;
 
-fn write<D: Disk>(v: &mut Volume<D>, at: u32, fill: u8) -> Result<(), VolumeFault>
+fn write<D: Disk>(v: &mut Volume<D>, at: u32, block: &Block) -> Result<(), VolumeFault>
     requires up { v.old.up ≡ true }
-    ensures { IsDone D.state (Write at fill) v.old result v.new }
+    ensures { IsDone D.state (Write at block.now) v.old result v.new }
 {
-    v.write(at, &Block([fill; 4096]))
+    v.write(at, block)
 }
 
 fn consistency_point<D: Disk>(alloc: Global, v: &mut Volume<D>) -> Result<(), VolumeFault>
@@ -50,12 +50,37 @@ fn revert<D: Disk>(
     v.revert(alloc, ident, drop_newer, family)
 }
 
-fn land<D: Disk>(v: &mut Volume<D>, number: u32, fill: u8) -> Result<(), VolumeFault>
+fn land<D: Disk>(v: &mut Volume<D>, number: u32, block: &Block) -> Result<(), VolumeFault>
     requires up { v.old.up ≡ true }
-    requires ready { IsReady (Land number fill) v.old.volume }
-    ensures { IsDone D.state (Land number fill) v.old result v.new }
+    requires ready { IsReady (Land number block.now) v.old.volume }
+    ensures { IsDone D.state (Land number block.now) v.old result v.new }
 {
-    v.land(number, &Block([fill; 4096]))
+    v.land(number, block)
+}
+
+fn sync<D: Disk>(v: &mut Volume<D>) -> Result<(), VolumeFault>
+    requires up { v.old.up ≡ true }
+    ensures { IsDone D.state Sync v.old result v.new }
+{
+    v.sync()
+}
+
+// What is read is no part of the law: it is told by the call itself.
+fn fetch<D: Disk>(v: &mut Volume<D>, number: u32) -> Result<(), VolumeFault>
+    requires up { v.old.up ≡ true }
+    requires ready { IsReady (Fetch number) v.old.volume }
+    ensures { IsDone D.state (Fetch number) v.old result v.new }
+{
+    let mut block = Block([0; 4096]);
+    v.fetch(number, &mut block)
+}
+
+fn read<D: Disk>(v: &mut Volume<D>, view: View, at: u32) -> Result<(), VolumeFault>
+    requires up { v.old.up ≡ true }
+    ensures { IsDone D.state (Read view at) v.old result v.new }
+{
+    let mut block = Block([0; 4096]);
+    v.read(view, at, &mut block)
 }
 
 fn restart<D: Disk>(v: &mut Volume<D>) -> Result<(), VolumeFault>
@@ -69,46 +94,6 @@ fn restart<D: Disk>(v: &mut Volume<D>) -> Result<(), VolumeFault>
     }
 }
 
-fn copy_label(alloc: Global, label: &Option<Label>) -> Result<Option<Label>, NoMemory>
-    ensures { IfOk result (λ copy. copy ≡ label.now) }
-{
-    match label {
-        None => Ok(None),
-        Some(label) => Ok(Some(label.copy(alloc)?)),
-    }
-}
-
-fn copy_head(alloc: Global, head: &Head) -> Result<Head, NoMemory>
-    ensures { IfOk result (λ copy. copy ≡ head.now) }
-{
-    Ok(Head {
-        ident: head.ident,
-        name: head.name.copy(alloc)?,
-        label: copy_label(alloc, &head.label)?,
-        time: head.time,
-        made: head.made,
-    })
-}
-
-// The head of a client's snapshot.
-fn client_head(
-    alloc: Global,
-    ident: Ident,
-    name: &SnapName,
-    label: &Option<Label>,
-    time: u64,
-) -> Result<Head, NoMemory>
-    ensures { IfOk result (λ head. head ≡ record { ident = ident; name = name.now; label = label.now; time = time; made = 0 }) }
-{
-    Ok(Head {
-        ident,
-        name: name.copy(alloc)?,
-        label: copy_label(alloc, label)?,
-        time,
-        made: 0,
-    })
-}
-
 fn copy_map(alloc: Global, map: &[u32]) -> Result<Vec<u32>, NoMemory>
     ensures { IfOk result (λ copy. copy.items ≡ map.now) }
 {
@@ -119,24 +104,17 @@ fn copy_leg(alloc: Global, head: &Head, map: &[u32]) -> Result<(Head, Vec<u32>),
     ensures head { IfOk result (λ copy. copy.0 ≡ head.now) }
     ensures map { IfOk result (λ copy. copy.1.items ≡ map.now) }
 {
-    Ok((copy_head(alloc, head)?, copy_map(alloc, map)?))
+    Ok((head.copy(alloc)?, copy_map(alloc, map)?))
 }
 
-fn take<D: Disk>(
-    alloc: Global,
-    v: &mut Volume<D>,
-    ident: Ident,
-    name: &SnapName,
-    label: &Option<Label>,
-    time: u64,
-) -> Result<(), VolumeFault>
+fn take<D: Disk>(alloc: Global, v: &mut Volume<D>, head: &Head) -> Result<(), VolumeFault>
     requires up { v.old.up ≡ true }
-    ensures { IsDone D.state (Snapshot ident name.now label.now time) v.old result v.new }
+    ensures { IsDone D.state (Snapshot head.now) v.old result v.new }
 {
-    if v.has_snapshot(ident) {
+    if v.has_snapshot(head.ident) {
         return Err(VolumeFault::NameTaken);
     }
-    match client_head(alloc, ident, name, label, time) {
+    match head.copy(alloc) {
         Ok(head) => v.snapshot(
             alloc, head.ident, head.name, head.label, head.time, head.made,
         ),
@@ -169,14 +147,9 @@ pub fn perform<D: Disk>(alloc: Global, v: &mut Volume<D>, call: &Call) -> Result
     ensures { IsDone D.state call.now v.old result v.new }
 {
     match call {
-        Call::Write { at, fill } => write(v, *at, *fill),
+        Call::Write { at, block } => write(v, *at, block),
         Call::ConsistencyPoint => consistency_point(alloc, v),
-        Call::Snapshot {
-            ident,
-            name,
-            label,
-            time,
-        } => take(alloc, v, *ident, name, label, *time),
+        Call::Snapshot { head } => take(alloc, v, head),
         Call::Remove { drops } => remove(alloc, v, drops),
         Call::MakeWritable => make_writable(alloc, v),
         Call::Revert {
@@ -184,13 +157,16 @@ pub fn perform<D: Disk>(alloc: Global, v: &mut Volume<D>, call: &Call) -> Result
             drop_newer,
             family,
         } => revert(alloc, v, *ident, *drop_newer, *family),
-        Call::Land { number, fill } => land(v, *number, *fill),
+        Call::Land { number, block } => land(v, *number, block),
         Call::Adopt {
             head,
             map,
             family,
             drops,
         } => adopt(alloc, v, head, map, *family, drops),
+        Call::Sync => sync(v),
+        Call::Fetch { number } => fetch(v, *number),
+        Call::Read { view, at } => read(v, *view, *at),
         Call::Restart => restart(v),
     }
 }

@@ -35,8 +35,8 @@ pub trait Disk {
         ensures time { Steps (state self.old) (state self.new) }
         ensures cause { OnErr result (IsCounted (state self.old) (state self.new)) };
 
-    /// Writes bytes from the place `at` on. Their range is pending up to the next sync or restart,
-    /// after a failure too.
+    /// Writes bytes from the place `at` on. Their range is pending up to the next sync or restart. After
+    /// a failure it may be pending too, and what a read gives there is not told.
     fn write(&mut self, at: u64, bytes: &[u8]) -> Result<(), Failed>
         requires range { at + length bytes.now ≤ (state self.old).size }
 

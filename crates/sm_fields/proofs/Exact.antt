@@ -1,7 +1,7 @@
 -- Reading gives exactly what the grammar says: the value that is spelled, or the first fault.
 use Rattle.std.proofs.Common.{◌≡◌, ℕ, ◌+◌, ◌<◌, ◌≤◌, ◌⊎◌, Bool, true, false, cond, ltb, List, [], ◌∷◌, ◌++◌, length, take, drop, Result, Ok, Err, refl, sym, ap, subst, ◌∙◌, append_assoc, length-append, arith, inl, inr}
 use Rattle.std.specs.Prelude.{nat_le, ◌&&◌}
-use Rattle.std.proofs.lemmas.Bool.{ltb-false, le-ltb, lt-ltb, cases_lt}
+use Rattle.std.proofs.lemmas.Bool.{and_parts, cases_Bool, ltb-false, leb-true, le-leb, le-ltb, lt-ltb, cases_lt}
 use Rattle.std.proofs.lemmas.List.{take_at, drop_at, take-append-drop, length-take}
 use Rattle.sm_fields.specs.Format.{Format, Size}
 use Rattle.sm_fields.specs.Grammar.{digits, limit, with_length, Spells, BeginsWithNone, Fault}
@@ -55,25 +55,14 @@ number_takes size p x fits e =
     subst (Taken (Format.number size) p) g.1
     ((front, (number_of_below size front bytes-fit, sym (digits-number_of size front len bytes-fit)), sym (take-append-drop (width size) p.rest), ap (λ (n : ℕ). p.at + n) (sym len)), IsBytes-drop (width size) p.rest fits)
 
-and_true : (a b : Bool) → (a && b) ≡ true → (a ≡ true) × (b ≡ true)
-and_true true true e = (refl, refl)
-and_true true false e = absurd cc
-and_true false b e = absurd cc
-
-leb_le : (a b : ℕ) → nat_le a b ≡ true → a ≤ b
-leb_le a b e = grind (arith, e)
-
-le_leb : (a b : ℕ) → a ≤ b → nat_le a b ≡ true
-le_leb a b e = grind (arith, e)
-
 text_takes : (most at : ℕ) (bytes : List ℕ) (x : List ℕ × Place) → IsBytes bytes → text_in most at bytes ≡ Ok x → Taken (Format.text most) (record { at = at; rest = bytes }) x
 text_takes most at [] x fits e = absurd cc
 text_takes most at (len ∷ rest) x fits e =
     let made : List ℕ × Place = (take len rest, record { at = at + (1 + len); rest = drop len rest }) in
     let g = chosen_ok (nat_le len most && nat_le len (length rest)) at made x e in
-    let both = and_true (nat_le len most) (nat_le len (length rest)) g.0 in
-    let small : len ≤ most = leb_le len most both.0 in
-    let long : len ≤ length rest = leb_le len (length rest) both.1 in
+    let both = and_parts (nat_le len most) (nat_le len (length rest)) g.0 in
+    let small : len ≤ most = leb-true len most both.0 in
+    let long : len ≤ length rest = leb-true len (length rest) both.1 in
     let is : length (take len rest) ≡ len = omega (arith, length-take len rest) in
     let spelled : len ∷ take len rest ≡ with_length (take len rest) = ap (λ (n : ℕ). n ∷ take len rest) (sym is) in
     subst (Taken (Format.text most) (record { at = at; rest = len ∷ rest })) g.1
@@ -104,10 +93,6 @@ standing_is a b x y p q = ap (λ (n : ℕ). standing n x) p ∙ ap (λ (r : List
 abbrev failed : {A : Type 0} → ℕ → Result A ℕ
 failed at = Err at
 
-true_or_false : (b : Bool) → (b ≡ true) ⊎ (b ≡ false)
-true_or_false true = inl refl
-true_or_false false = inr refl
-
 abbrev gives : {A : Type 0} → A → ℕ → List ℕ → Result (A × Place) ℕ
 gives value at rest = Ok (value, standing at rest)
 
@@ -126,8 +111,8 @@ number_again size n at bytes front rest lt spelled parts =
 text_again : (most at : ℕ) (value bytes front rest : List ℕ) → length value ≤ most → front ≡ with_length value → bytes ≡ front ++ rest → text_in most at bytes ≡ gives value (at + length front) rest
 text_again most at value bytes front rest small spelled parts =
     let whole : bytes ≡ length value ∷ (value ++ rest) = parts ∙ ap (λ (f : List ℕ). f ++ rest) spelled in
-    let fits : nat_le (length value) most ≡ true = le_leb (length value) most small in
-    let long : nat_le (length value) (length (value ++ rest)) ≡ true = le_leb _ _ (omega (arith, length-append value rest)) in
+    let fits : nat_le (length value) most ≡ true = le-leb (length value) most small in
+    let long : nat_le (length value) (length (value ++ rest)) ≡ true = le-leb _ _ (omega (arith, length-append value rest)) in
     ap (text_in most at) whole
     ∙ rw (fits, long) (gives_is (take (length value) (value ++ rest)) value (at + (1 + length value)) (at + length front) (drop (length value) (value ++ rest)) rest (take_at value rest (length value) refl) (omega (arith, ap length spelled)) (drop_at value rest (length value) refl))
 
@@ -159,8 +144,8 @@ text_none most len after value front rest refused small spelled parts =
     let whole : len ∷ after ≡ length value ∷ (value ++ rest) = parts ∙ ap (λ (f : List ℕ). f ++ rest) spelled in
     let same : len ≡ length value = cc in
     let behind : after ≡ value ++ rest = cc in
-    let fits : nat_le len most ≡ true = le_leb len most (omega (arith, same)) in
-    let long : nat_le len (length after) ≡ true = le_leb _ _ (omega (arith, same, ap length behind, length-append value rest)) in
+    let fits : nat_le len most ≡ true = le-leb len most (omega (arith, same)) in
+    let long : nat_le len (length after) ≡ true = le-leb _ _ (omega (arith, same, ap length behind, length-append value rest)) in
     let passed : (nat_le len most && nat_le len (length after)) ≡ true = rw (fits, long) refl in
     absurd cc
 
@@ -206,11 +191,11 @@ number_stops size bytes at fits none =
 text_stops : (most at : ℕ) (bytes : List ℕ) → BeginsWithNone (Format.text most) bytes → text_in most at bytes ≡ Err at
 text_stops most at [] none = refl
 text_stops most at (len ∷ rest) none =
-    elim (true_or_false (nat_le len most && nat_le len (length rest))) [
+    elim (cases_Bool (nat_le len most && nat_le len (length rest))) [
       | inl holds ↦
-          let both = and_true (nat_le len most) (nat_le len (length rest)) holds in
-          let small = leb_le len most both.0 in
-          let long = leb_le len (length rest) both.1 in
+          let both = and_parts (nat_le len most) (nat_le len (length rest)) holds in
+          let small = leb-true len most both.0 in
+          let long = leb-true len (length rest) both.1 in
           let is : length (take len rest) ≡ len = omega (arith, length-take len rest) in
           absurd (none (take len rest) (len ∷ take len rest) (drop len rest) ((omega arith, ap (λ (n : ℕ). n ∷ take len rest) (sym is)), ap (λ (t : List ℕ). len ∷ t) (sym (take-append-drop len rest))))
       | inr fails ↦ rw fails refl

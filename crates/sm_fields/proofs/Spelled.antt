@@ -2,7 +2,7 @@
 use Rattle.std.proofs.Common.{◌≡◌, ℕ, zero, suc, ◌^◌, ◌<◌, ◌≤◌, Bool, true, false, List, [], ◌∷◌, ◌++◌, length, get_or, refl, sym, ap, ◌∙◌, arith, lit<}
 use Rattle.std.specs.Prelude.{nat_le, ◌==◌, Option, Some, None, IfSome}
 use Rattle.std.specs.List.{flat_map}
-use Rattle.std.proofs.lemmas.Bool.{eqb-true}
+use Rattle.std.proofs.lemmas.Bool.{eqb-true, leb-true, le-leb}
 use Rattle.std.proofs.lemmas.List.{append-nil}
 use Rattle.std.proofs.lemmas.List.Concat.{flat_map-cons}
 use Rattle.sm_base.specs.declared.numbers.Ident.{Ident}
@@ -22,23 +22,17 @@ such_that_spelled f Fits spelling holds by = record {
   spelled = λ a fits. (by.spelled a fits.0, fits.1);
 }
 
-leb_le : (a b : ℕ) → nat_le a b ≡ true → a ≤ b
-leb_le a b e = grind (arith, e)
-
-le_leb : (a b : ℕ) → a ≤ b → nat_le a b ≡ true
-le_leb a b e = grind (arith, e)
-
 pub count_spelled : (most : ℕ) → most < 2 ^ 32 → IsSpelledBy (count most) (λ n. n ≤ most) (digits bits32)
 count_spelled most lt = record {
-  only = λ n bytes s. (leb_le n most s.1, s.0.1);
-  spelled = λ n fits. ((omega arith, refl), le_leb n most fits);
+  only = λ n bytes s. (leb-true n most s.1, s.0.1);
+  spelled = λ n fits. ((omega arith, refl), le-leb n most fits);
 }
 
 truth_bytes : (n : ℕ) (b : Bool) (bytes front back : List ℕ) → nat_le n 1 ≡ true → front ≡ digits bits8 n → b ≡ (n == 1) → back ≡ [] → bytes ≡ front ++ back → bytes ≡ truth_digits b
 unfolding digits
 truth_bytes zero b bytes front back le f is nil parts = parts ∙ rw (f, nil, is) refl
 truth_bytes (suc zero) b bytes front back le f is nil parts = parts ∙ rw (f, nil, is) refl
-truth_bytes (suc (suc n)) b bytes front back le f is nil parts = absurd (omega (arith, leb_le (suc (suc n)) 1 le))
+truth_bytes (suc (suc n)) b bytes front back le f is nil parts = absurd (omega (arith, leb-true (suc (suc n)) 1 le))
 
 truth_again : (b : Bool) → Unit {0} → Spells truth b (truth_digits b)
 unfolding digits

@@ -1,4 +1,4 @@
-ghost use Rattle.std.specs.Prelude.{◌≡◌, ◌==◌, ◌^◌, ◌<◌, ◌++◌, true, length, IfOk, OnOk};
+ghost use Rattle.std.specs.Prelude.{◌≡◌, ◌==◌, ◌^◌, ◌<◌, ◌++◌, true, length, IfOk, OnOk, OnErr};
 ghost use Rattle.sm_fields.specs.Format.{bits8, bits32, number, such_that, truth as truth_of, identity as identity_of, option as option_of, word as word_of, head as head_of};
 ghost use Rattle.sm_fields.specs.Grammar.{digits, truth_digits, identity_digits, option_digits};
 ghost use Rattle.sm_fields.specs.Reads.{Gives, at_byte};
@@ -79,6 +79,7 @@ pub fn read_head(reader: &mut Reader, magic: &[u8], behind: u32) -> Result<(), F
 #[tactic(auto, unfolding(crate::specs::Grammar::digits))]
 pub fn write_truth(writer: &mut Writer, value: bool) -> Result<(), NoMemory>
     ensures ok { OnOk result (writer.new ≡ writer.old ++ truth_digits value) }
+    ensures err { OnErr result (writer.new ≡ writer.old) }
 {
     if value { writer.u8(1) } else { writer.u8(0) }
 }
@@ -86,21 +87,19 @@ pub fn write_truth(writer: &mut Writer, value: bool) -> Result<(), NoMemory>
 /// The identity of a snapshot.
 pub fn write_identity(writer: &mut Writer, ident: Ident) -> Result<(), NoMemory>
     ensures ok { OnOk result (writer.new ≡ writer.old ++ identity_digits ident) }
+    ensures err { OnErr result (writer.new ≡ writer.old) }
 {
-    writer.u32(ident.origin)?;
-    writer.u64(ident.seq)
+    writer.identity(ident)
 }
 
 /// An identity, or that none stands.
 pub fn write_optional_identity(writer: &mut Writer, ident: Option<Ident>) -> Result<(), NoMemory>
     ensures ok { OnOk result (writer.new ≡ writer.old ++ option_digits identity_digits ident) }
+    ensures err { OnErr result (writer.new ≡ writer.old) }
 {
     match ident {
         None => write_truth(writer, false),
-        Some(ident) => {
-            write_truth(writer, true)?;
-            write_identity(writer, ident)
-        }
+        Some(ident) => writer.some_identity(ident),
     }
 }
 

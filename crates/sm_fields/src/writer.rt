@@ -1,8 +1,8 @@
-ghost use Rattle.std.specs.Prelude.{◌≡◌, ◌≤◌, [], ◌++◌, length, OnOk, OnErr};
+ghost use Rattle.std.specs.Prelude.{◌≡◌, ◌≤◌, true, [], ◌++◌, length, OnOk, OnErr};
 ghost use Rattle.sm_fields.specs.Format.{bits8, bits32, bits64};
-ghost use Rattle.sm_fields.specs.Grammar.{digits, with_length};
+ghost use Rattle.sm_fields.specs.Grammar.{digits, identity_digits, truth_digits, with_length};
 
-use sm_base::NoMemory;
+use sm_base::{Ident, NoMemory};
 use std::alloc::Global;
 use std::marker::Model;
 
@@ -80,6 +80,31 @@ impl Writer {
     {
         prove!(value <= max);
         self.u32(value)
+    }
+
+    // Both parts of an identity, or none.
+    #[tactic(auto, unfolding(crate::specs::Grammar::digits))]
+    pub(crate) fn identity(&mut self, ident: Ident) -> Result<(), NoMemory>
+        ensures ok { OnOk result (self.new ≡ self.old ++ identity_digits ident) }
+        ensures err { OnErr result (self.new ≡ self.old) }
+    {
+        self.bytes.reserve(12)?;
+        self.bytes.extend_from_slice(&ident.origin.to_be_bytes())?;
+        self.bytes.extend_from_slice(&ident.seq.to_be_bytes())?;
+        Ok(())
+    }
+
+    // The byte that says that an identity stands, and that identity, or nothing of it.
+    #[tactic(auto, unfolding(crate::specs::Grammar::digits))]
+    pub(crate) fn some_identity(&mut self, ident: Ident) -> Result<(), NoMemory>
+        ensures ok { OnOk result (self.new ≡ self.old ++ (truth_digits true ++ identity_digits ident)) }
+        ensures err { OnErr result (self.new ≡ self.old) }
+    {
+        self.bytes.reserve(13)?;
+        self.bytes.push(1)?;
+        self.bytes.extend_from_slice(&ident.origin.to_be_bytes())?;
+        self.bytes.extend_from_slice(&ident.seq.to_be_bytes())?;
+        Ok(())
     }
 
     /// The bytes written.

@@ -21,8 +21,12 @@ pub struct FileDisk {
 impl FileDisk {
     ghost use Rattle.sm_filedisk.specs.Silent.{file_of, len_of, faults_of};
 
-    /// A disk of this file, which was opened for reading and writing. The error is that of asking
-    /// for its length.
+    /// A disk of this file, which was opened for reading and writing. Its length, `len`, is that of the
+    /// file in bytes, as the system tells it now, and stays so however long the file becomes.
+    ///
+    /// # Errors
+    ///
+    /// The system's error of asking for the file's length. No disk was made then, and the file is closed.
     pub fn new(file: fs::File) -> io::Result<FileDisk>
         ensures file { IfOk result (λ disk. file_of disk ≡ Some file) }
         ensures faults { IfOk result (λ disk. faults_of disk ≡ 0) }

@@ -2,43 +2,34 @@
 use Rattle.std.proofs.Common.{◌≡◌, ℕ, ◌==◌, ◌⊎◌, Bool, true, false, List, [], ◌∷◌, ◌++◌, refl, sym, ap, subst, ◌∙◌, inl, inr, arith}
 use Rattle.std.specs.Prelude.{◌||◌, not}
 use Rattle.std.specs.List.{list_any, AllByRecursion}
-use Rattle.std.proofs.lemmas.Bool.{eqb-true}
+use Rattle.std.proofs.lemmas.Bool.{and_from, and_parts, eqb-true, not-true, or_parts}
 use Rattle.sm_base.specs.declared.numbers.Ident.{Ident}
 use Rattle.sm_defs.specs.Words.{Among, KeysDiffer, same_ident}
 use Rattle.sm_root.specs.declared.root.RootSnapshot.{RootSnapshot}
 use Rattle.sm_root.specs.Condition.{ident_of}
-use Rattle.sm_root.proofs.PartsSpelled.{both_true, and_true}
 
 abbrev pub known : List RootSnapshot → Ident → Bool
 known before i = list_any (λ s. same_ident s.ident i) before
 
-not_false : (b : Bool) → not b ≡ true → b ≡ false
-not_false true e = absurd cc
-not_false false e = refl
-
 same_is : (i j : Ident) → same_ident i j ≡ true → i ≡ j
 same_is i j e =
-    let both = both_true (i.origin == j.origin) (i.seq == j.seq) e in
+    let both = and_parts (i.origin == j.origin) (i.seq == j.seq) e in
     let origin : i.origin ≡ j.origin = eqb-true _ _ both.0 in
     let seq : i.seq ≡ j.seq = eqb-true _ _ both.1 in
     let first : i ≡ record i { origin = j.origin } = ap (λ (x : ℕ). record i { origin = x }) origin in
     first ∙ ap (λ (x : ℕ). record j { seq = x }) seq
 
 same_self : (i : Ident) → same_ident i i ≡ true
-same_self i = and_true (i.origin == i.origin) (i.seq == i.seq) (grind arith) (grind arith)
-
-or_false : (a b : Bool) → (a || b) ≡ false → (a ≡ false) × (b ≡ false)
-or_false true b e = absurd cc
-or_false false b e = (refl, e)
+same_self i = and_from (i.origin == i.origin) (i.seq == i.seq) (grind arith) (grind arith)
 
 -- no snapshot before has an identity that is new
 new_differs : (before : List RootSnapshot) (i : Ident) (x : RootSnapshot) → known before i ≡ false → Among before x → ¬ (i ≡ x.ident)
 new_differs [] i x new among e = absurd among
 new_differs (y ∷ before) i x new (inl same) e =
-    let parts = or_false (same_ident y.ident i) (known before i) new in
+    let parts = or_parts (same_ident y.ident i) (known before i) new in
     let is : same_ident y.ident i ≡ true = rw (e, same) (same_self y.ident) in
     absurd cc
-new_differs (y ∷ before) i x new (inr later) e = new_differs before i x (or_false (same_ident y.ident i) (known before i) new).1 later e
+new_differs (y ∷ before) i x new (inr later) e = new_differs before i x (or_parts (same_ident y.ident i) (known before i) new).1 later e
 
 is_new : (before : List RootSnapshot) (i : Ident) → ((x : RootSnapshot) → Among before x → ¬ (i ≡ x.ident)) → known before i ≡ false
 is_new [] i apart = refl
@@ -66,7 +57,7 @@ NewInTurn before (s ∷ ss) = (not (known before s.ident) ≡ true) × NewInTurn
 
 others_differ : (before ss : List RootSnapshot) (x : RootSnapshot) → NewInTurn before ss → Among before x → AllByRecursion (λ y. ¬ (ident_of y ≡ ident_of x)) ss
 others_differ before [] x new among = tt
-others_differ before (y ∷ ss) x new among = (new_differs before y.ident x (not_false (known before y.ident) new.0) among, others_differ (before ++ y ∷ []) ss x new.1 (among-push before x y among))
+others_differ before (y ∷ ss) x new among = (new_differs before y.ident x (not-true (known before y.ident) new.0) among, others_differ (before ++ y ∷ []) ss x new.1 (among-push before x y among))
 
 pub differ_of : (before ss : List RootSnapshot) → NewInTurn before ss → KeysDiffer ident_of ss
 differ_of before [] new = tt

@@ -2,44 +2,31 @@
 use Rattle.std.proofs.Common.{◌≡◌, ℕ, zero, suc, ◌^◌, ◌<◌, ◌≤◌, ◌==◌, Bool, true, false, List, [], ◌∷◌, ◌++◌, length, refl, sym, ◌∙◌, arith, lit<, lit≤}
 use Rattle.std.specs.Prelude.{◌&&◌, ◌||◌, nat_le, nat_lt, Option, Some, None}
 use Rattle.std.specs.List.{list_all}
+use Rattle.std.proofs.lemmas.Bool.{and_from, and_parts, leb-true, le-leb, or_right}
 use Rattle.std.proofs.lemmas.List.{append-nil}
 use Rattle.sm_base.specs.Name.{is_label, is_snapshot_name, word_byte}
+use Rattle.sm_base.specs.declared.numbers.Ident.{Ident}
 use Rattle.sm_base.specs.declared.numbers.Kind.{Kind}
 use Rattle.sm_base.specs.declared.numbers.Kind.TheVariants.{Rw, Dp}
 use Rattle.sm_base.specs.declared.limits.TheConstants.{MOST_LOGICAL, MOST_PHYSICAL, LAST_NUMBER}
 use Rattle.sm_fields.specs.Format.{bits8, bits32, bits64}
 use Rattle.sm_fields.specs.Grammar.{digits, with_length, Spells, IsSpelledBy}
 use Rattle.sm_root.specs.declared.parts.Sizes.{Sizes}
-use Rattle.sm_root.specs.declared.parts.Words.{Words}
+use Rattle.sm_root.specs.declared.head.Head.{Head}
 use Rattle.sm_root.specs.Condition.{IsLabel}
 use Rattle.sm_root.specs.Spelling.{kind_number, label_text, words_digits, sizes_digits}
 use Rattle.sm_root.specs.Layout.{kind_of, kind, label_of, label, sizes, words}
 
-pub leb_le : (a b : ℕ) → nat_le a b ≡ true → a ≤ b
-leb_le a b e = grind (arith, e)
-
-pub le_leb : (a b : ℕ) → a ≤ b → nat_le a b ≡ true
-le_leb a b e = grind (arith, e)
-
-pub both_true : (a b : Bool) → (a && b) ≡ true → (a ≡ true) × (b ≡ true)
-both_true true true e = (refl, refl)
-both_true true false e = absurd cc
-both_true false b e = absurd cc
-
 second_true : (a b : Bool) → a ≡ false → (a || b) ≡ true → b ≡ true
 second_true true b h e = absurd cc
 second_true false b h e = e
-
-either_true : (a b : Bool) → b ≡ true → (a || b) ≡ true
-either_true true b e = refl
-either_true false b e = e
 
 -- ---- the kind
 
 kind_bytes : (n : ℕ) (k : Kind) (bytes front back : List ℕ) → nat_le n 1 ≡ true → front ≡ digits bits8 n → k ≡ kind_of n → back ≡ [] → bytes ≡ front ++ back → bytes ≡ digits bits8 (kind_number k)
 kind_bytes zero k bytes front back le f is nil parts = parts ∙ rw (f, nil, is) (append-nil (digits bits8 0))
 kind_bytes (suc zero) k bytes front back le f is nil parts = parts ∙ rw (f, nil, is) (append-nil (digits bits8 1))
-kind_bytes (suc (suc n)) k bytes front back le f is nil parts = absurd (omega (arith, leb_le (suc (suc n)) 1 le))
+kind_bytes (suc (suc n)) k bytes front back le f is nil parts = absurd (omega (arith, leb-true (suc (suc n)) 1 le))
 
 kind_again : (k : Kind) → Unit {0} → Spells kind k (digits bits8 (kind_number k))
 unfolding kind
@@ -69,41 +56,41 @@ unfolding label
 label_again None fits = ([], 0 ∷ [], [], ((lit≤ tt, refl), refl), (refl, refl), refl)
 label_again (Some []) fits = absurd cc
 label_again (Some (b ∷ t)) fits =
-    let tests = both_true (nat_lt 0 (length (b ∷ t)) && nat_le (length (b ∷ t)) 31) (list_all word_byte (b ∷ t)) fits in
-    let sizes = both_true (nat_lt 0 (length (b ∷ t))) (nat_le (length (b ∷ t)) 31) tests.0 in
-    (b ∷ t, with_length (b ∷ t), [], ((leb_le (length (b ∷ t)) 31 sizes.1, refl), either_true (length (b ∷ t) == 0) (is_label (b ∷ t)) fits), (refl, refl), sym (append-nil (with_length (b ∷ t))))
+    let tests = and_parts (nat_lt 0 (length (b ∷ t)) && nat_le (length (b ∷ t)) 31) (list_all word_byte (b ∷ t)) fits in
+    let sizes = and_parts (nat_lt 0 (length (b ∷ t))) (nat_le (length (b ∷ t)) 31) tests.0 in
+    (b ∷ t, with_length (b ∷ t), [], ((leb-true (length (b ∷ t)) 31 sizes.1, refl), or_right (length (b ∷ t) == 0) (is_label (b ∷ t)) fits), (refl, refl), sym (append-nil (with_length (b ∷ t))))
 
 pub label_spelled : IsSpelledBy label IsLabel (λ l. with_length (label_text l))
 label_spelled = record { only = label_only; spelled = label_again }
 
 -- ---- the words
 
-pub record FitsWords (w : Words) : Type 0 where
+pub record FitsWords (w : Head) : Type 0 where
   pub name : is_snapshot_name w.name ≡ true
   pub label : IsLabel w.label
   pub time : w.time < 2 ^ 64
   pub made : w.made < 2 ^ 32
 
-words_only : (w : Words) (bytes : List ℕ) → Spells words w bytes → FitsWords w × (bytes ≡ words_digits w)
+pub words_only : (ident : Ident) (w : Head) (bytes : List ℕ) → Spells (words ident) w bytes → FitsWords w × (bytes ≡ words_digits w) × (w.ident ≡ ident)
 unfolding words words_digits
-words_only w bytes s =
+words_only ident w bytes s =
     let a = s.4 in
     let b = a.4 in
     let c = b.4 in
     let l = label_spelled.only a.0 a.1 a.3 in
     let tail : b.2 ≡ digits bits32 c.0 = c.5 ∙ rw (c.3.1, c.4.1) (append-nil (digits bits32 c.0)) in
     let whole : bytes ≡ with_length s.0 ++ (with_length (label_text a.0) ++ (digits bits64 b.0 ++ digits bits32 c.0)) = s.5 ∙ rw (s.3.0.1, a.5, l.1, b.5, b.3.1, tail) refl in
-    rw c.4.0 (record { name = s.3.1; label = l.0; time = b.3.0; made = c.3.0 }, whole)
+    rw c.4.0 (record { name = s.3.1; label = l.0; time = b.3.0; made = c.3.0 }, whole, refl)
 
-words_again : (w : Words) → FitsWords w → Spells words w (words_digits w)
+pub words_again : (w : Head) → FitsWords w → Spells (words w.ident) w (words_digits w)
 unfolding words words_digits
 words_again w fits =
-    let tests = both_true (nat_lt 0 (length w.name) && nat_le (length w.name) 64) (list_all word_byte w.name) fits.name in
-    let sizes = both_true (nat_lt 0 (length w.name)) (nat_le (length w.name) 64) tests.0 in (
+    let tests = and_parts (nat_lt 0 (length w.name) && nat_le (length w.name) 64) (list_all word_byte w.name) fits.name in
+    let sizes = and_parts (nat_lt 0 (length w.name)) (nat_le (length w.name) 64) tests.0 in (
       w.name,
       with_length w.name,
       with_length (label_text w.label) ++ (digits bits64 w.time ++ digits bits32 w.made),
-      ((leb_le (length w.name) 64 sizes.1, refl), fits.name),
+      ((leb-true (length w.name) 64 sizes.1, refl), fits.name),
       (
         w.label,
         with_length (label_text w.label),
@@ -121,9 +108,6 @@ words_again w fits =
       ),
       refl,
     )
-
-pub words_spelled : IsSpelledBy words FitsWords words_digits
-words_spelled = record { only = words_only; spelled = words_again }
 
 -- ---- the sizes
 
@@ -145,9 +129,9 @@ sizes_only v bytes s =
     let d = c.4 in
     let e = d.4 in
     let k = kind_spelled.only a.0 a.1 a.3 in
-    let logical = both_true (nat_le 1 c.0) (nat_le c.0 MOST_LOGICAL) c.3.1 in
-    let physical = both_true (nat_le c.0 d.0) (nat_le d.0 MOST_PHYSICAL) d.3.1 in
-    let next = both_true (nat_le 1 e.0) (nat_le e.0 LAST_NUMBER) e.3.1 in
+    let logical = and_parts (nat_le 1 c.0) (nat_le c.0 MOST_LOGICAL) c.3.1 in
+    let physical = and_parts (nat_le c.0 d.0) (nat_le d.0 MOST_PHYSICAL) d.3.1 in
+    let next = and_parts (nat_le 1 e.0) (nat_le e.0 LAST_NUMBER) e.3.1 in
     let tail : d.2 ≡ digits bits64 e.0 = e.5 ∙ rw (e.3.0.1, e.4.1) (append-nil (digits bits64 e.0)) in
     let whole : bytes ≡ digits bits32 s.0 ++ (digits bits8 (kind_number a.0) ++ (digits bits64 b.0 ++ (digits bits32 c.0 ++ (digits bits32 d.0 ++ digits bits64 e.0)))) =
     s.5 ∙ rw (s.3.1, a.5, k.1, b.5, b.3.1, c.5, c.3.0.1, d.5, d.3.0.1, tail) refl in
@@ -155,24 +139,21 @@ sizes_only v bytes s =
       record {
         number = s.3.0;
         family = b.3.0;
-        some_blocks = leb_le 1 c.0 logical.0;
-        few_blocks = leb_le c.0 MOST_LOGICAL logical.1;
-        room = leb_le c.0 d.0 physical.0;
-        few_places = leb_le d.0 MOST_PHYSICAL physical.1;
-        counted = (leb_le 1 e.0 next.0, leb_le e.0 LAST_NUMBER next.1);
+        some_blocks = leb-true 1 c.0 logical.0;
+        few_blocks = leb-true c.0 MOST_LOGICAL logical.1;
+        room = leb-true c.0 d.0 physical.0;
+        few_places = leb-true d.0 MOST_PHYSICAL physical.1;
+        counted = (leb-true 1 e.0 next.0, leb-true e.0 LAST_NUMBER next.1);
       },
       whole,
     )
 
-pub and_true : (a b : Bool) → a ≡ true → b ≡ true → (a && b) ≡ true
-and_true a b p q = rw (p, q) refl
-
 sizes_again : (v : Sizes) → FitsSizes v → Spells sizes v (sizes_digits v)
 unfolding sizes sizes_digits
 sizes_again v fits =
-    let logical = and_true (nat_le 1 v.logical) (nat_le v.logical MOST_LOGICAL) (le_leb 1 v.logical fits.some_blocks) (le_leb v.logical MOST_LOGICAL fits.few_blocks) in
-    let physical = and_true (nat_le v.logical v.physical) (nat_le v.physical MOST_PHYSICAL) (le_leb v.logical v.physical fits.room) (le_leb v.physical MOST_PHYSICAL fits.few_places) in
-    let next = and_true (nat_le 1 v.next) (nat_le v.next LAST_NUMBER) (le_leb 1 v.next fits.counted.0) (le_leb v.next LAST_NUMBER fits.counted.1) in
+    let logical = and_from (nat_le 1 v.logical) (nat_le v.logical MOST_LOGICAL) (le-leb 1 v.logical fits.some_blocks) (le-leb v.logical MOST_LOGICAL fits.few_blocks) in
+    let physical = and_from (nat_le v.logical v.physical) (nat_le v.physical MOST_PHYSICAL) (le-leb v.logical v.physical fits.room) (le-leb v.physical MOST_PHYSICAL fits.few_places) in
+    let next = and_from (nat_le 1 v.next) (nat_le v.next LAST_NUMBER) (le-leb 1 v.next fits.counted.0) (le-leb v.next LAST_NUMBER fits.counted.1) in
     let few_logical : v.logical < 2 ^ 32 = omega (arith, fits.few_blocks) in
     let few_physical : v.physical < 2 ^ 32 = omega (arith, fits.few_places) in
     let few_next : v.next < 2 ^ 64 = omega (arith, fits.counted.1) in (

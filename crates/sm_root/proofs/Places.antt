@@ -1,13 +1,12 @@
 -- Numbers that were tested one after the other stand at one place each, and such numbers pass the tests.
 use Rattle.std.proofs.Common.{◌≡◌, ◌≢◌, ℕ, zero, suc, ◌+◌, ◌^◌, ◌<◌, ◌≤◌, ◌==◌, ◌⊎◌, true, false, List, [], ◌∷◌, ◌++◌, length, get_or, refl, sym, ap, subst, ◌∙◌, arith, inl, inr, length-append}
 use Rattle.std.specs.Prelude.{nat_le, Option, Some, None}
-use Rattle.std.proofs.lemmas.Bool.{cases_eq}
+use Rattle.std.proofs.lemmas.Bool.{cases_eq, leb-true, le-leb, and_parts, and_from}
 use Rattle.sm_defs.specs.Words.{Among}
 use Rattle.sm_fields.specs.Format.{bits32}
 use Rattle.sm_fields.specs.Grammar.{limit, AllInTurn}
 use Rattle.sm_root.specs.Condition.{StandsAt, OnePlace, AllAtMost}
 use Rattle.sm_root.specs.Spots.{Spot, place_of, with_spot, with_map, with_maps, is_place, may_stand}
-use Rattle.sm_root.proofs.PartsSpelled.{leb_le, le_leb, both_true, and_true}
 
 abbrev pub Fit : ℕ → List Spot → ℕ → List ℕ → Type 0
 Fit most seen place [] = Unit {0}
@@ -30,8 +29,8 @@ same_some p q e = cc
 
 passed : (most : ℕ) (seen : List Spot) (place n : ℕ) → may_stand most seen place (suc n) ≡ true → (suc n ≤ most) × (is_place (place_of seen (suc n)) place ≡ true)
 passed most seen place n e =
-    let both = both_true (nat_le (suc n) most) (is_place (place_of seen (suc n)) place) (rw (nonzero n) at e) in
-    (leb_le (suc n) most both.0, both.1)
+    let both = and_parts (nat_le (suc n) most) (is_place (place_of seen (suc n)) place) (rw (nonzero n) at e) in
+    (leb-true (suc n) most both.0, both.1)
 
 is_at : (o : Option ℕ) (p place : ℕ) → is_place o place ≡ true → o ≡ Some p → p ≡ place
 is_at None p place e is = absurd cc
@@ -142,7 +141,7 @@ fits_at_one most seen place (zero ∷ ns) bounded agrees own = (
 fits_at_one most seen place (suc m ∷ ns) bounded agrees own =
     let small : suc m ≤ most = bounded 0 (omega arith) in
     let here : is_place (place_of seen (suc m)) place ≡ true = is_place_of (place_of seen (suc m)) place (λ q is. agrees 0 q (omega arith) (λ z. absurd (omega (arith, z))) is ∙ omega arith) in
-    let test : may_stand most seen place (suc m) ≡ true = rw (nonzero m) (and_true (nat_le (suc m) most) (is_place (place_of seen (suc m)) place) (le_leb (suc m) most small) here) in
+    let test : may_stand most seen place (suc m) ≡ true = rw (nonzero m) (and_from (nat_le (suc m) most) (is_place (place_of seen (suc m)) place) (le-leb (suc m) most small) here) in
     let later : (i q : ℕ) → i < length ns → get_or ns i 0 ≢ 0 → place_of (with_spot seen place (suc m)) (get_or ns i 0) ≡ Some q → q ≡ suc place + i =
     λ i q lt nz is. elim (cases_eq (suc m) (get_or ns i 0)) [
       | inl same ↦ absurd (omega (arith, own 0 (suc i) (omega arith) (omega arith) (λ z. absurd (omega (arith, z))) same))

@@ -3,7 +3,7 @@ use Rattle.std.proofs.Common.{◌≡◌, ℕ, zero, suc, ◌-◌, ◌^◌, ◌<�
 use Rattle.std.specs.Prelude.{not}
 use Rattle.std.specs.List.{flat_map}
 use Rattle.std.proofs.lemmas.List.{append-nil, map_push}
-use Rattle.sm_base.specs.declared.limits.TheConstants.{MOST_SNAPSHOTS}
+use Rattle.sm_base.specs.declared.numbers.Ident.{Ident}
 use Rattle.sm_defs.specs.Words.{Among}
 use Rattle.sm_fields.specs.Format.{number, such_that, bits32, in_turn}
 use Rattle.sm_fields.specs.Grammar.{digits, limit, identity_digits, IsIdentity, Spells, IsSpelledBy, AllInTurn}
@@ -11,12 +11,12 @@ use Rattle.sm_fields.proofs.Sizes.{length-digits}
 use Rattle.sm_fields.proofs.Spelled.{number_spelled, such_that_spelled, identity_spelled, count_spelled, in_turn_only, in_turn_again, head_only, head_again}
 use Rattle.sm_root.specs.declared.root.Root.{Root}
 use Rattle.sm_root.specs.declared.root.RootSnapshot.{RootSnapshot}
-use Rattle.sm_root.specs.declared.TheConstants.{MAGIC}
+use Rattle.sm_root.specs.declared.TheConstants.{MAGIC, RECORD_SNAPSHOTS}
 use Rattle.sm_root.specs.Condition.{map_of, maps_of, IsSnapshot, IsRoot}
 use Rattle.sm_root.specs.Spots.{Spot, with_map, with_maps, may_stand}
-use Rattle.sm_root.specs.Spelling.{map_bytes, words_digits, words_of, snapshot_bytes, sizes_digits, sizes_of, body_bytes, spelling}
+use Rattle.sm_root.specs.Spelling.{map_bytes, words_digits, head_of, snapshot_bytes, sizes_digits, sizes_of, body_bytes, spelling}
 use Rattle.sm_root.specs.Layout.{block_map, fresh, snapshot, body, root_record}
-use Rattle.sm_root.proofs.PartsSpelled.{FitsWords, words_spelled, FitsSizes, sizes_spelled}
+use Rattle.sm_root.proofs.PartsSpelled.{FitsWords, words_only, words_again, FitsSizes, sizes_spelled}
 use Rattle.sm_root.proofs.Places.{FitAll, EntryFits, one_place_of, at_most_of, maps_fit, fit_from, fit_to}
 use Rattle.sm_root.proofs.Apart.{known, NewInTurn, differ_of, new_of}
 
@@ -45,7 +45,7 @@ map_again logical most seen m fits =
 pub record FitsSnapshot (logical most : ℕ) (stable : List ℕ) (before : List RootSnapshot) (s : RootSnapshot) : Type 0 where
   pub ident : IsIdentity s.ident
   pub new : not (known before s.ident) ≡ true
-  pub words : FitsWords (words_of s)
+  pub words : FitsWords (head_of s)
   pub map : MapFits logical most (with_maps [] (stable ∷ map map_of before)) s.map
 
 snapshot_only : (logical most : ℕ) (stable : List ℕ) (before : List RootSnapshot) (s : RootSnapshot) (bytes : List ℕ) → Spells (snapshot logical most stable before) s bytes → FitsSnapshot logical most stable before s × (bytes ≡ snapshot_bytes s)
@@ -54,24 +54,27 @@ snapshot_only logical most stable before v bytes s =
     let a = s.4 in
     let b = a.4 in
     let i = identity_spelled.only s.0 s.1 s.3.0 in
-    let w = words_spelled.only a.0 a.1 a.3 in
+    let w = words_only s.0 a.0 a.1 a.3 in
     let m = map_only logical most (with_maps [] (stable ∷ map map_of before)) b.0 b.1 b.3 in
     let tail : a.2 ≡ map_bytes b.0 = b.5 ∙ rw (m.1, b.4.1) (append-nil (map_bytes b.0)) in
     let whole : bytes ≡ identity_digits s.0 ++ (words_digits a.0 ++ map_bytes b.0) = s.5 ∙ rw (i.1, a.5, w.1, tail) refl in
-    rw b.4.0 (record { ident = i.0; new = s.3.1; words = w.0; map = m.0 }, whole)
+    rw b.4.0 (
+      record { ident = subst IsIdentity (sym w.2) i.0; new = subst (λ (j : Ident). not (known before j) ≡ true) (sym w.2) s.3.1; words = w.0; map = m.0 },
+      whole ∙ ap (λ (j : Ident). identity_digits j ++ (words_digits a.0 ++ map_bytes b.0)) (sym w.2),
+    )
 
 snapshot_again : (logical most : ℕ) (stable : List ℕ) (before : List RootSnapshot) (s : RootSnapshot) → FitsSnapshot logical most stable before s → Spells (snapshot logical most stable before) s (snapshot_bytes s)
 unfolding snapshot snapshot_bytes fresh
 snapshot_again logical most stable before v fits = (
   v.ident,
   identity_digits v.ident,
-  words_digits (words_of v) ++ map_bytes v.map,
+  words_digits (head_of v) ++ map_bytes v.map,
   (identity_spelled.spelled v.ident fits.ident, fits.new),
   (
-    words_of v,
-    words_digits (words_of v),
+    head_of v,
+    words_digits (head_of v),
     map_bytes v.map,
-    words_spelled.spelled (words_of v) fits.words,
+    words_again (head_of v) fits.words,
     (v.map, map_bytes v.map, [], map_again logical most (with_maps [] (stable ∷ map map_of before)) v.map fits.map, (refl, refl), sym (append-nil (map_bytes v.map))),
     refl,
   ),
@@ -86,7 +89,7 @@ snapshot_spelled logical most stable before = record { only = snapshot_only logi
 pub record FitsBody (r : Root) : Type 0 where
   pub sizes : FitsSizes (sizes_of r)
   pub stable : MapFits r.logical r.physical [] r.stable
-  pub few : length r.snapshots ≤ MOST_SNAPSHOTS
+  pub few : length r.snapshots ≤ RECORD_SNAPSHOTS
   pub snapshots : AllInTurn (FitsSnapshot r.logical r.physical r.stable) [] r.snapshots
 
 body_only : (r : Root) (bytes : List ℕ) → Spells body r bytes → FitsBody r × (bytes ≡ body_bytes r)
@@ -97,7 +100,7 @@ body_only r bytes s =
     let c = b.4 in
     let v = sizes_spelled.only s.0 s.1 s.3 in
     let m = map_only s.0.logical s.0.physical [] a.0 a.1 a.3 in
-    let n = (count_spelled MOST_SNAPSHOTS (lit< tt)).only b.0 b.1 b.3 in
+    let n = (count_spelled RECORD_SNAPSHOTS (lit< tt)).only b.0 b.1 b.3 in
     let t = in_turn_only (snapshot s.0.logical s.0.physical a.0) (FitsSnapshot s.0.logical s.0.physical a.0) snapshot_bytes (snapshot_spelled s.0.logical s.0.physical a.0) [] b.0 c.0 c.1 c.3 in
     let tail : b.2 ≡ flat_map snapshot_bytes c.0 = c.5 ∙ rw (t.2, c.4.1) (append-nil (flat_map snapshot_bytes c.0)) in
     let whole : bytes ≡ sizes_digits s.0 ++ (map_bytes a.0 ++ (digits bits32 (length c.0) ++ flat_map snapshot_bytes c.0)) = s.5 ∙ rw (v.1, a.5, m.1, b.5, n.1, tail, t.0) refl in
@@ -120,7 +123,7 @@ body_again r fits =
           length r.snapshots,
           digits bits32 (length r.snapshots),
           flat_map snapshot_bytes r.snapshots,
-          (count_spelled MOST_SNAPSHOTS (lit< tt)).spelled (length r.snapshots) fits.few,
+          (count_spelled RECORD_SNAPSHOTS (lit< tt)).spelled (length r.snapshots) fits.few,
           (r.snapshots, flat_map snapshot_bytes r.snapshots, [], list, (refl, refl), sym (append-nil (flat_map snapshot_bytes r.snapshots))),
           refl,
         ),

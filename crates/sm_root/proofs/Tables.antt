@@ -3,14 +3,13 @@ use Rattle.std.proofs.Common.{◌≡◌, ℕ, zero, suc, ◌+◌, ◌-◌, ◌<�
 use Rattle.std.specs.Prelude.{◌||◌, nat_le, nat_lt, slice_set, replicate, Option, Some, None}
 use Rattle.std.proofs.lemmas.Bool.{cases_eq, cases_lt}
 use Rattle.std.proofs.lemmas.List.{get_or-set_same, get_or-set_other, get_or-replicate, length-set, length-replicate}
-use Rattle.sm_base.specs.declared.limits.TheConstants.{MOST_SNAPSHOTS}
 use Rattle.sm_fields.specs.Format.{number, such_that, bits32, count, in_turn, empty, head}
 use Rattle.sm_fields.proofs.Alike.{Alike, alike_same, alike_such_that, alike_then, alike_in_turn}
 use Rattle.sm_root.specs.declared.root.RootSnapshot.{RootSnapshot}
-use Rattle.sm_root.specs.declared.TheConstants.{MAGIC}
-use Rattle.sm_root.specs.Condition.{map_of}
+use Rattle.sm_root.specs.declared.TheConstants.{MAGIC, RECORD_SNAPSHOTS}
+use Rattle.sm_root.specs.Condition.{map_of, snapshot_of}
 use Rattle.sm_root.specs.Spots.{Spot, place_of, with_spot, with_map, with_maps, is_place, may_stand}
-use Rattle.sm_root.specs.Layout.{block_map, snapshot, snapshot_made, sizes, words, fresh, body, root_made, root_record}
+use Rattle.sm_root.specs.Layout.{block_map, snapshot, sizes, words, fresh, body, root_made, root_record}
 use Rattle.sm_root.specs.ByTable.{free_at, with_number, after_map, after_maps, map_by_table, rest_by_table, snapshot_by_table, snapshots_by_table, images_by_table, body_by_table, record_by_table}
 
 abbrev pub code : Option ℕ → ℕ
@@ -87,9 +86,9 @@ unfolding snapshot_by_table rest_by_table snapshot
 snapshot_alike most logical table stable stands before =
     let now = stands_after_maps most table (with_map [] 0 stable) stands (map map_of before) in
     alike_then (fresh before) (fresh before) _ _ (alike_same (fresh before)) (λ ident.
-    alike_then words words _ _ (alike_same words) (λ w.
+    alike_then (words ident) (words ident) _ _ (alike_same (words ident)) (λ h.
     alike_then (map_by_table (after_maps table (map map_of before)) logical) (block_map logical most (with_maps (with_map [] 0 stable) (map map_of before))) _ _ (map_alike most logical (after_maps table (map map_of before)) (with_maps (with_map [] 0 stable) (map map_of before)) now) (λ ns.
-    alike_same (empty (snapshot_made ident w ns)))))
+    alike_same (empty (snapshot_of h ns)))))
 
 snapshots_alike : (most logical : ℕ) (table stable : List ℕ) → StandsFor most table (with_map [] 0 stable) → (n : ℕ) → Alike (snapshots_by_table table logical n) (in_turn (snapshot logical most stable) [] n)
 unfolding snapshots_by_table
@@ -103,6 +102,6 @@ record_alike total =
     let stands = stands_at_first s.physical in
     alike_then (map_by_table (replicate (s.physical + 1) 0) s.logical) (block_map s.logical s.physical []) _ _ (map_alike s.physical s.logical (replicate (s.physical + 1) 0) [] stands) (λ stable.
     let after = stands_after_map s.physical (replicate (s.physical + 1) 0) [] stands 0 stable in
-    alike_then (count MOST_SNAPSHOTS) (count MOST_SNAPSHOTS) _ _ (alike_same (count MOST_SNAPSHOTS)) (λ n.
+    alike_then (count RECORD_SNAPSHOTS) (count RECORD_SNAPSHOTS) _ _ (alike_same (count RECORD_SNAPSHOTS)) (λ n.
     alike_then (snapshots_by_table (after_map (replicate (s.physical + 1) 0) 0 stable) s.logical n) (in_turn (snapshot s.logical s.physical stable) [] n) _ _ (snapshots_alike s.physical s.logical (after_map (replicate (s.physical + 1) 0) 0 stable) stable after n) (λ ss.
     alike_same (empty (root_made s stable ss)))))))

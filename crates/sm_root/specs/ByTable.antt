@@ -1,14 +1,13 @@
 -- The same layout, where a table has the place of each number that stood so far: 0 for none, and one more than the place.
 use Rattle.std.specs.Prelude.{ℕ, suc, ◌+◌, ◌-◌, ◌==◌, ◌&&◌, ◌||◌, nat_lt, Bool, if◌then◌else◌, List, [], ◌∷◌, length, map, slice_index, slice_set, replicate}
 use Rattle.sm_base.specs.declared.numbers.Ident.{Ident}
-use Rattle.sm_base.specs.declared.limits.TheConstants.{MOST_SNAPSHOTS}
 use Rattle.sm_fields.specs.Format.{Format, ◌>>=◌, empty, bits32, count, in_turn, numbers, head}
 use Rattle.sm_root.specs.declared.root.Root.{Root}
 use Rattle.sm_root.specs.declared.root.RootSnapshot.{RootSnapshot}
 use Rattle.sm_root.specs.declared.parts.Sizes.{Sizes}
-use Rattle.sm_root.specs.declared.TheConstants.{MAGIC}
-use Rattle.sm_root.specs.Condition.{map_of}
-use Rattle.sm_root.specs.Layout.{sizes, words, fresh, snapshot_made, root_made}
+use Rattle.sm_root.specs.declared.TheConstants.{MAGIC, RECORD_SNAPSHOTS}
+use Rattle.sm_root.specs.Condition.{map_of, snapshot_of}
+use Rattle.sm_root.specs.Layout.{sizes, words, fresh, root_made}
 
 abbrev pub free_at : List ℕ → ℕ → ℕ → Bool
 free_at table place n = (n == 0) || (nat_lt n (length table) && ((slice_index table n == 0) || (slice_index table n == place + 1)))
@@ -30,9 +29,9 @@ map_by_table table logical = numbers bits32 (λ before n. free_at (after_map tab
 -- a snapshot behind its identity
 unfoldable pub rest_by_table : List ℕ → ℕ → Ident → Format RootSnapshot
 rest_by_table table logical ident = do
-  w ← words
+  h ← words ident
   numbers ← map_by_table table logical
-  empty (snapshot_made ident w numbers)
+  empty (snapshot_of h numbers)
 
 unfoldable pub snapshot_by_table : List ℕ → ℕ → List RootSnapshot → Format RootSnapshot
 snapshot_by_table table logical before = do
@@ -46,7 +45,7 @@ snapshots_by_table table logical n = in_turn (snapshot_by_table table logical) [
 unfoldable pub images_by_table : List ℕ → Sizes → Format Root
 images_by_table table s = do
   stable ← map_by_table table s.logical
-  n ← count MOST_SNAPSHOTS
+  n ← count RECORD_SNAPSHOTS
   snapshots ← snapshots_by_table (after_map table 0 stable) s.logical n
   empty (root_made s stable snapshots)
 

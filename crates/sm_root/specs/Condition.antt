@@ -2,9 +2,11 @@
 use Rattle.std.specs.Prelude.{◌≡◌, ◌≢◌, ℕ, ◌^◌, ◌<◌, ◌≤◌, true, List, ◌∷◌, length, map, slice_index, Option, None, Some}
 use Rattle.sm_base.specs.Name.{is_label, is_snapshot_name}
 use Rattle.sm_base.specs.declared.numbers.Ident.{Ident}
-use Rattle.sm_base.specs.declared.limits.TheConstants.{MOST_SNAPSHOTS, MOST_LOGICAL, MOST_PHYSICAL, LAST_NUMBER}
+use Rattle.sm_base.specs.declared.limits.TheConstants.{MOST_LOGICAL, MOST_PHYSICAL, LAST_NUMBER}
 use Rattle.sm_defs.specs.Words.{Among, KeysDiffer}
 use Rattle.sm_fields.specs.Grammar.{IsIdentity}
+use Rattle.sm_root.specs.declared.TheConstants.{RECORD_SNAPSHOTS}
+use Rattle.sm_root.specs.declared.head.Head.{Head}
 use Rattle.sm_root.specs.declared.root.Root.{Root}
 use Rattle.sm_root.specs.declared.root.RootSnapshot.{RootSnapshot}
 
@@ -37,6 +39,18 @@ abbrev pub IsLabel : Option (List ℕ) → Type 0
 IsLabel None = Unit {0}
 IsLabel (Some label) = is_label label ≡ true
 
+-- the snapshot of this head and this map
+abbrev pub snapshot_of : Head → List ℕ → RootSnapshot
+snapshot_of h map = record { ident = h.ident; name = h.name; label = h.label; time = h.time; made = h.made; map = map }
+
+-- what a snapshot's grammar asks of its head
+pub record IsHead (h : Head) : Type 0 where
+  pub ident : IsIdentity h.ident
+  pub name : is_snapshot_name h.name ≡ true
+  pub label : IsLabel h.label
+  pub time : h.time < 2 ^ 64
+  pub made : h.made < 2 ^ 32
+
 pub record IsSnapshot (logical : ℕ) (s : RootSnapshot) : Type 0 where
   pub ident : IsIdentity s.ident
   pub name : is_snapshot_name s.name ≡ true
@@ -54,7 +68,7 @@ pub record IsRoot (r : Root) : Type 0 where
   pub few_places : r.physical ≤ MOST_PHYSICAL
   pub counted : (1 ≤ r.next) × (r.next ≤ LAST_NUMBER)
   pub long : length r.stable ≡ r.logical
-  pub few : length r.snapshots ≤ MOST_SNAPSHOTS
+  pub few : length r.snapshots ≤ RECORD_SNAPSHOTS
   pub snapshots : (s : RootSnapshot) → Among r.snapshots s → IsSnapshot r.logical s
   pub at_most : AllAtMost (maps_of r) r.physical
   pub one_place : OnePlace (maps_of r)

@@ -5,15 +5,15 @@ use Rattle.sm_base.specs.Name.{is_label, is_snapshot_name}
 use Rattle.sm_base.specs.declared.numbers.Ident.{Ident}
 use Rattle.sm_base.specs.declared.numbers.Kind.{Kind}
 use Rattle.sm_base.specs.declared.numbers.Kind.TheVariants.{Rw, Dp}
-use Rattle.sm_base.specs.declared.limits.TheConstants.{MOST_SNAPSHOTS, MOST_LOGICAL, MOST_PHYSICAL, LAST_NUMBER}
+use Rattle.sm_base.specs.declared.limits.TheConstants.{MOST_LOGICAL, MOST_PHYSICAL, LAST_NUMBER}
 use Rattle.sm_defs.specs.Words.{same_ident}
 use Rattle.sm_fields.specs.Format.{Format, ◌>>=◌, empty, number, text, such_that, bits8, bits32, bits64, count, identity, in_turn, numbers, head}
 use Rattle.sm_root.specs.declared.root.Root.{Root}
 use Rattle.sm_root.specs.declared.root.RootSnapshot.{RootSnapshot}
 use Rattle.sm_root.specs.declared.parts.Sizes.{Sizes}
-use Rattle.sm_root.specs.declared.parts.Words.{Words}
-use Rattle.sm_root.specs.declared.TheConstants.{MAGIC}
-use Rattle.sm_root.specs.Condition.{map_of}
+use Rattle.sm_root.specs.declared.head.Head.{Head}
+use Rattle.sm_root.specs.declared.TheConstants.{MAGIC, RECORD_SNAPSHOTS}
+use Rattle.sm_root.specs.Condition.{map_of, snapshot_of}
 use Rattle.sm_root.specs.Spots.{Spot, with_map, with_maps, may_stand}
 
 abbrev pub kind_of : ℕ → Kind
@@ -51,28 +51,25 @@ sizes = do
   next ← such_that (number bits64) (λ c. nat_le 1 c && nat_le c LAST_NUMBER)
   empty (record { number = record { 0 = n }; kind = k; family = f; logical = logical; physical = physical; next = next })
 
--- the words of a snapshot
-unfoldable pub words : Format Words
-words = do
+-- what stands of a snapshot of this identity before its map
+unfoldable pub words : Ident → Format Head
+words ident = do
   name ← such_that (text 64) is_snapshot_name
   l ← label
   time ← number bits64
   made ← number bits32
-  empty (record { name = name; label = l; time = time; made = made })
+  empty (record { ident = ident; name = name; label = l; time = time; made = made })
 
 -- an identity that no snapshot before has
 unfoldable pub fresh : List RootSnapshot → Format Ident
 fresh before = such_that identity (λ i. not (list_any (λ s. same_ident s.ident i) before))
 
-abbrev pub snapshot_made : Ident → Words → List ℕ → RootSnapshot
-snapshot_made ident w numbers = record { ident = ident; name = w.name; label = w.label; time = w.time; made = w.made; map = numbers }
-
 unfoldable pub snapshot : ℕ → ℕ → List ℕ → List RootSnapshot → Format RootSnapshot
 snapshot logical physical stable before = do
   ident ← fresh before
-  w ← words
+  h ← words ident
   numbers ← block_map logical physical (with_maps [] (stable ∷ map map_of before))
-  empty (snapshot_made ident w numbers)
+  empty (snapshot_of h numbers)
 
 abbrev pub root_made : Sizes → List ℕ → List RootSnapshot → Root
 root_made s stable snapshots = record { number = s.number; kind = s.kind; family = s.family; logical = s.logical; physical = s.physical; next = s.next; stable = stable; snapshots = snapshots }
@@ -81,7 +78,7 @@ unfoldable pub body : Format Root
 body = do
   s ← sizes
   stable ← block_map s.logical s.physical []
-  n ← count MOST_SNAPSHOTS
+  n ← count RECORD_SNAPSHOTS
   snapshots ← in_turn (snapshot s.logical s.physical stable) [] n
   empty (root_made s stable snapshots)
 

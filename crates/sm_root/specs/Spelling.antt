@@ -8,7 +8,7 @@ use Rattle.sm_fields.specs.Grammar.{digits, with_length, identity_digits}
 use Rattle.sm_root.specs.declared.root.Root.{Root}
 use Rattle.sm_root.specs.declared.root.RootSnapshot.{RootSnapshot}
 use Rattle.sm_root.specs.declared.parts.Sizes.{Sizes}
-use Rattle.sm_root.specs.declared.parts.Words.{Words}
+use Rattle.sm_root.specs.declared.head.Head.{Head}
 use Rattle.sm_root.specs.declared.TheConstants.{MAGIC}
 
 abbrev pub kind_number : Kind → ℕ
@@ -23,15 +23,15 @@ label_text (Some label) = label
 unfoldable pub map_bytes : List ℕ → List ℕ
 map_bytes numbers = flat_map (digits bits32) numbers
 
--- the words of a snapshot
-unfoldable pub words_digits : Words → List ℕ
-words_digits w = with_length w.name ++ (with_length (label_text w.label) ++ (digits bits64 w.time ++ digits bits32 w.made))
+-- what stands of a snapshot between its identity and its map
+unfoldable pub words_digits : Head → List ℕ
+words_digits h = with_length h.name ++ (with_length (label_text h.label) ++ (digits bits64 h.time ++ digits bits32 h.made))
 
-abbrev pub words_of : RootSnapshot → Words
-words_of s = record { name = s.name; label = s.label; time = s.time; made = s.made }
+abbrev pub head_of : RootSnapshot → Head
+head_of s = record { ident = s.ident; name = s.name; label = s.label; time = s.time; made = s.made }
 
 unfoldable pub snapshot_bytes : RootSnapshot → List ℕ
-snapshot_bytes s = identity_digits s.ident ++ (words_digits (words_of s) ++ map_bytes s.map)
+snapshot_bytes s = identity_digits s.ident ++ (words_digits (head_of s) ++ map_bytes s.map)
 
 -- the sizes and numbers of a root
 unfoldable pub sizes_digits : Sizes → List ℕ

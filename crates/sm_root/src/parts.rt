@@ -1,6 +1,6 @@
 //! The fields of a root and of a snapshot, but for maps and identities.
 
-ghost use Rattle.std.specs.Prelude.{◌≡◌, ◌&&◌, nat_le};
+ghost use Rattle.std.specs.Prelude.{◌≡◌, ◌&&◌, nat_le, IfOk};
 ghost use Rattle.sm_base.specs.Name.{is_snapshot_name};
 ghost use Rattle.sm_fields.specs.Format.{bits32, bits64, number, text, such_that};
 ghost use Rattle.sm_fields.specs.Reads.{Gives, at_byte};
@@ -8,16 +8,11 @@ ghost use Rattle.sm_root.specs.Answer.{bad_byte};
 ghost use Rattle.sm_root.specs.Layout.{kind as kind_format, label as label_format, sizes as sizes_format, words as words_format};
 
 use crate::fault::RootFault;
-use sm_base::{Kind, Label, NameFault, SnapName, VolNo};
+use crate::head::Head;
+use sm_base::limits::{LAST_NUMBER, MOST_LOGICAL, MOST_PHYSICAL};
+use sm_base::{Ident, Kind, Label, NameFault, SnapName, VolNo};
 use sm_fields::{FieldFault, Reader};
 use std::alloc::Global;
-
-/// The greatest number of logical blocks, of physical blocks, and of a client's next snapshot.
-const MOST_LOGICAL: u32 = 4096;
-
-const MOST_PHYSICAL: u32 = 16384;
-
-const LAST_NUMBER: u64 = 4611686018427387904;
 
 /// The sizes and numbers at the front of a root.
 #[derive(Debug, Drop)]
@@ -28,15 +23,6 @@ pub struct Sizes {
     pub logical: u32,
     pub physical: u32,
     pub next: u64,
-}
-
-/// The words of a snapshot.
-#[derive(Debug, Drop)]
-pub struct Words {
-    pub name: SnapName,
-    pub label: Option<Label>,
-    pub time: u64,
-    pub made: u32,
 }
 
 #[tactic(auto, unfolding(crate::specs::Layout::kind))]
@@ -124,14 +110,17 @@ fn read_label(alloc: Global, reader: &mut Reader) -> Result<Option<Label>, RootF
 }
 
 #[tactic(auto, unfolding(crate::specs::Layout::words))]
-pub fn read_words(alloc: Global, reader: &mut Reader) -> Result<Words, RootFault>
-    ensures { Gives bad_byte (λ w. w) words_format reader.old result reader.new }
+/// What stands of a snapshot of this identity before its map.
+pub fn read_words(alloc: Global, reader: &mut Reader, ident: Ident) -> Result<Head, RootFault>
+    ensures reads { Gives bad_byte (λ h. h) (words_format ident) reader.old result reader.new }
+    ensures ident { IfOk result (λ h. h.ident ≡ ident) }
 {
     let name = read_name(alloc, reader)?;
     let label = read_label(alloc, reader)?;
     let time = reader.u64()?;
     let made = reader.u32()?;
-    Ok(Words {
+    Ok(Head {
+        ident,
         name,
         label,
         time,

@@ -11,17 +11,14 @@ ghost use Rattle.sm_root.specs.Condition.{IsRoot};
 ghost use Rattle.sm_root.specs.Layout.{root_record};
 ghost use Rattle.sm_root.specs.Spelling.{spelling};
 
-use crate::MAGIC;
 use crate::fault::RootFault;
 use crate::maps::read_map;
 use crate::parts::{Sizes, read_sizes};
 use crate::root::Root;
 use crate::snapshots::read_snapshots;
+use crate::{MAGIC, RECORD_SNAPSHOTS};
 use sm_fields::{Reader, read_head};
 use std::alloc::Global;
-
-/// The greatest number of snapshots.
-const MOST_SNAPSHOTS: u32 = 255;
 
 /// The maps and the snapshots behind the sizes, with a table that has a place for each number.
 #[tactic(auto, unfolding(crate::specs::ByTable::images_by_table))]
@@ -34,7 +31,7 @@ fn read_images(
     ensures { Gives bad_byte (λ r. r) (images_by_table table.old sizes) reader.old result reader.new }
 {
     let stable = read_map(alloc, reader, sizes.logical, table)?;
-    let count = reader.count(MOST_SNAPSHOTS)?;
+    let count = reader.count(RECORD_SNAPSHOTS)?;
     let snapshots = read_snapshots(alloc, reader, count, sizes.logical, table)?;
     Ok(Root {
         number: sizes.number,

@@ -13,15 +13,15 @@ pub struct Root {
     pub kind: Kind,
     /// Volumes of one family have equal block numbers in equal snapshots.
     pub family: u64,
-    /// Blocks of an image, from 1 to 4,096.
+    /// Blocks of an image, from 1 to [`MOST_LOGICAL`](sm_base::limits::MOST_LOGICAL).
     pub logical: u32,
-    /// Blocks of the disk, from `logical` to 16,384.
+    /// Blocks of the disk, from `logical` to [`MOST_PHYSICAL`](sm_base::limits::MOST_PHYSICAL).
     pub physical: u32,
-    /// The number of the next snapshot of a client, from 1 to `2^62`.
+    /// The number of the next snapshot of a client, from 1 to [`LAST_NUMBER`](sm_base::limits::LAST_NUMBER).
     pub next: u64,
     /// The image of the last consistency point.
     pub stable: BlockMap,
-    /// The snapshots, oldest first, at most 255.
+    /// The snapshots, oldest first, at most [`RECORD_SNAPSHOTS`](crate::RECORD_SNAPSHOTS).
     pub snapshots: Snapshots,
 }
 
@@ -38,7 +38,8 @@ pub struct RootSnapshot {
     pub map: BlockMap,
 }
 
-fn copy_label(alloc: Global, label: &Option<Label>) -> Result<Option<Label>, NoMemory>
+/// An equal label, where there is one.
+pub fn copy_label(alloc: Global, label: &Option<Label>) -> Result<Option<Label>, NoMemory>
     ensures { IfOk result (λ copy. copy ≡ label.now) }
 {
     match label {

@@ -45,16 +45,9 @@ fn read_rest(
     ensures ident { IfOk result (λ s. s.ident ≡ ident) }
     ensures after { IfOk result (λ s. table.new ≡ after_map table.old 0 s.map) }
 {
-    let words = read_words(alloc, reader)?;
+    let head = read_words(alloc, reader, ident)?;
     let map = read_map(alloc, reader, logical, table)?;
-    Ok(RootSnapshot {
-        ident,
-        name: words.name,
-        label: words.label,
-        time: words.time,
-        made: words.made,
-        map,
-    })
+    Ok(head.with_map(map))
 }
 
 /// So many snapshots, whose numbers go into the table.

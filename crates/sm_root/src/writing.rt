@@ -3,10 +3,10 @@
 ghost use Rattle.std.specs.Prelude.{◌≡◌, ◌++◌, OnOk, IfOk, length, ◌≤◌};
 ghost use Rattle.std.specs.List.{flat_map};
 ghost use Rattle.sm_root.specs.Condition.{IsRoot};
-ghost use Rattle.sm_root.specs.Spelling.{map_bytes, words_of, words_digits, snapshot_bytes, sizes_of, sizes_digits, body_bytes, spelling};
+ghost use Rattle.sm_root.specs.Spelling.{map_bytes, head_of, words_digits, snapshot_bytes, sizes_of, sizes_digits, body_bytes, spelling};
 
-use crate::MAGIC;
 use crate::root::{Root, RootSnapshot};
+use crate::{MAGIC, RECORD_SNAPSHOTS};
 use sm_base::{Kind, NoMemory};
 use sm_fields::{Writer, framed, write_identity};
 use std::alloc::Global;
@@ -38,7 +38,7 @@ fn write_map(writer: &mut Writer, numbers: &[u32]) -> Result<(), NoMemory>
 
 #[tactic(auto, unfolding(crate::specs::Spelling::words_digits))]
 fn write_words(writer: &mut Writer, snapshot: &RootSnapshot) -> Result<(), NoMemory>
-    ensures { OnOk result (writer.new ≡ writer.old ++ words_digits (words_of snapshot.now)) }
+    ensures { OnOk result (writer.new ≡ writer.old ++ words_digits (head_of snapshot.now)) }
 {
     writer.text(64, snapshot.name.text())?;
     match &snapshot.label {
@@ -69,13 +69,13 @@ fn write_snapshots(writer: &mut Writer, snapshots: &[RootSnapshot]) -> Result<()
 
 #[tactic(auto, unfolding(crate::specs::Spelling::body_bytes))]
 fn write_body(writer: &mut Writer, root: &Root) -> Result<(), NoMemory>
-    requires { length root.now.snapshots ≤ 255 }
+    requires { length root.now.snapshots ≤ RECORD_SNAPSHOTS }
     ensures { OnOk result (writer.new ≡ writer.old ++ body_bytes root.now) }
 {
     write_sizes(writer, root)?;
     write_map(writer, root.stable.as_slice())?;
     let snapshots = root.snapshots.as_slice();
-    writer.count(255, snapshots.len() as u32)?;
+    writer.count(RECORD_SNAPSHOTS, snapshots.len() as u32)?;
     write_snapshots(writer, snapshots)
 }
 

@@ -3,3 +3,4 @@ pub mod Framed
 pub mod Answer
 pub mod Crash
 pub mod Settled
+pub mod Through

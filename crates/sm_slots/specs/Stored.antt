@@ -2,19 +2,21 @@
 use Rattle.std.specs.Prelude.{◌≡◌, ℕ, ◌+◌, ◌*◌, ◌%◌, ◌≤◌, ◌==◌, nat_le, List, length, take, drop, Bool, false, if◌then◌else◌}
 use Rattle.std.specs.Int.{from_be_bytes, w32}
 use Rattle.std.specs.List.{list_all}
+use Rattle.sm_base.specs.declared.limits.TheConstants.{SLOTS_END}
 use Rattle.sm_disk.specs.Image.{Image, part}
+use Rattle.sm_slots.specs.declared.layout.TheConstants.{SLOT_LEN}
 
 -- the length of a slot
 abbrev pub slot_len : ℕ
-slot_len = 4456448
+slot_len = SLOT_LEN
 
 -- where slot 0 or 1 begins
 abbrev pub slot_start : ℕ → ℕ
-slot_start slot = 4096 + 4456448 * slot
+slot_start slot = 4096 + SLOT_LEN * slot
 
 -- the first place behind the slots
 abbrev pub slots_end : ℕ
-slots_end = 8916992
+slots_end = SLOTS_END
 
 -- the number of the selected slot: the low bit of the first byte, whatever the others are
 abbrev pub slot_of : Image → ℕ

@@ -6,9 +6,6 @@ ghost use Rattle.sm_slots.specs.Stored.{slot_start, is_blank};
 /// The length of a slot in bytes, and so of the longest record.
 pub const SLOT_LEN: usize = 4_456_448;
 
-/// The first place of a disk behind its slots, which is the least length of a disk with slots.
-pub const SLOTS_END: u64 = 8_916_992;
-
 /// The place of the selector.
 pub const SELECTOR: u64 = 0;
 

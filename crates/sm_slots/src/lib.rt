@@ -7,6 +7,7 @@
 
 mod faults;
 mod layout;
+mod restarting;
 
 ghost use Rattle.std.specs.Prelude.{◌≡◌, ℕ, ◌-◌, ◌<◌, ◌≤◌, ◌↔◌, [], ◌∷◌, length, vec_len, OnOk, OnErr, IfOk, IfSome, IsTrue, None};
 ghost use Rattle.sm_disk.specs.Image.{Image, IsOutside, part};
@@ -17,8 +18,10 @@ ghost use Rattle.sm_slots.specs.Slots.{BehindSlots, SelectsOne, IsSettled, IsCom
 
 pub use faults::{RecordFault, SlotFault};
 use layout::{HEAD_LEN, SELECTOR, is_zero, stated_len};
-pub use layout::{SLOT_LEN, SLOTS_END, slot_start_of};
+pub use layout::{SLOT_LEN, slot_start_of};
+pub use restarting::{commit_and_restart, restart_and_open};
 use sm_base::Failed;
+pub use sm_base::limits::SLOTS_END;
 use sm_disk::Disk;
 use std::alloc::Global;
 use std::marker::Model;

@@ -10,12 +10,13 @@ use Rattle.sm_root.specs.declared.root.RootSnapshot.{RootSnapshot}
 use Rattle.sm_root.specs.Condition.{map_of}
 use Rattle.std.proofs.lemmas.List.{map-append}
 use Rattle.volume_store.specs.declared.faults.VolumeFault.TheVariants.{SnapFull}
-use Rattle.volume_store.specs.declared.head.Head.{Head}
+use Rattle.sm_root.specs.declared.head.Head.{Head}
 use Rattle.volume_store.specs.Maps.{Maps, AreMapsOf, all_maps}
 use Rattle.volume_store.specs.Next as store
 use Rattle.volume_store.specs.Refusals as store_refusals
-use Rattle.volume_store.specs.Snapshot as store_snapshot
-use Rattle.volume_store.proofs.Sound.{among_filter, among_map_from, among_map_to}
+use Rattle.sm_root.specs.Condition as store_snapshot
+use Rattle.volume_store.proofs.MapLemmas.{among_map}
+use Rattle.volume_store.proofs.Sound.{among_filter, among_map_from}
 use Rattle.sm_volume.specs.Seen.{image_of, seen_snapshot, volume_of}
 use Rattle.sm_volume.specs.Assigned.{CanAdopt, snapshot_of, adopted, staying}
 use Rattle.sm_volume.specs.Refusals.{adopt_refusal}
@@ -32,14 +33,14 @@ module _ (c : disk.Image) (m : Maps) (ms : List ℕ) (drops : List Ident) (maps 
   is_old x is =
       let from = among_map_from map_of left x is in
       let old = among_filter (λ (s : RootSnapshot). not (has_ident drops s.ident)) m.root.snapshots from.0 from.1 in
-      inr (inr (subst (Among (map map_of m.root.snapshots)) (sym from.2) (among_map_to map_of m.root.snapshots from.0 old)))
+      inr (inr (subst (Among (map map_of m.root.snapshots)) (sym from.2) (among_map map_of m.root.snapshots from.0 old)))
 
   new_with_old : (x : List ℕ) (i j : ℕ) → Among (store.map_maps left) x → slice_index ms i ≡ slice_index x j → 0 < slice_index ms i → i ≡ j
   unfolding left
   new_with_old x i j is same some =
       let from = among_map_from map_of left x is in
       let seen : Among (staying drops (map (seen_snapshot c) m.root.snapshots)) (seen_snapshot c from.0) =
-      subst (λ (ss : List Snapshot). Among ss (seen_snapshot c from.0)) (sym (staying_seen c drops m.root.snapshots)) (among_map_to (seen_snapshot c) left from.0 from.1) in
+      subst (λ (ss : List Snapshot). Among ss (seen_snapshot c from.0)) (sym (staying_seen c drops m.root.snapshots)) (among_map (seen_snapshot c) left from.0 from.1) in
       let numbers : x ≡ tags (image_of c from.0.map) = from.2 ∙ sym (tags_seen c from.0.map) in
       can.one_place (seen_snapshot c from.0) seen i j (same ∙ ap (λ (xs : List ℕ). slice_index xs j) numbers) some
 

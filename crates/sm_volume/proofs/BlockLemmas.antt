@@ -1,5 +1,6 @@
 -- Blocks that a run of calls leaves alone, and the volumes that are seen on them.
 use Rattle.std.proofs.Common.{◌≡◌, ◌≢◌, inl, inr, ℕ, ◌+◌, ◌<◌, ◌≤◌, ◌==◌, ◌||◌, nat_lt, cond, Bool, true, false, List, [], ◌∷◌, map, refl, ap, arith}
+use Rattle.std.proofs.lemmas.Bool.{or_left, or_parts, or_right}
 use Rattle.std.proofs.lemmas.Bool.Decides.{nat_tests}
 use Rattle.std.specs.List.{list_any}
 use Rattle.sm_defs.specs.Image.{Block, hole, stands}
@@ -17,18 +18,6 @@ use Rattle.volume_store.specs.Held.{block_at, block_start, bytes_at}
 use Rattle.volume_store.specs.Maps.{Maps, all_maps, uses}
 use Rattle.sm_volume.specs.Seen.{block_of, image_of, seen_snapshot, volume_of}
 use Rattle.sm_volume.specs.Shown.{SameBlocks, IsLikeIn, KeepsBlocks, NoBlock}
-
-pub or_left : (a b : Bool) → a ≡ true → (a || b) ≡ true
-or_left true b h = refl
-or_left false b h = absurd (cc)
-
-pub or_right : (a b : Bool) → b ≡ true → (a || b) ≡ true
-or_right true b h = refl
-or_right false b h = h
-
-pub neither : (a b : Bool) → (a || b) ≡ false → (a ≡ false) × (b ≡ false)
-neither true b h = absurd (cc)
-neither false b h = (refl, h)
 
 -- the places of a block are among those that are spared
 abbrev pub HasPlaces : (ℕ → Type 0) → ℕ → Type 0

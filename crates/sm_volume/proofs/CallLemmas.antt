@@ -11,6 +11,7 @@ use Rattle.sm_base.specs.declared.numbers.VolNo.{VolNo}
 use Rattle.sm_defs.specs.Image.{Block, Image, hole, stands}
 use Rattle.sm_defs.specs.Volume.{Snapshot, Volume, has, is_rw, new_volume, image_of as image_of_snapshot}
 use Rattle.sm_defs.specs.Words.{Among, same_ident, has_ident, up_to}
+use Rattle.sm_defs.proofs.Bridges.{least_is}
 use Rattle.sm_disk.specs.Image.{IsOutside}
 use Rattle.sm_disk.specs.Image as disk
 use Rattle.sm_disk.specs.Disk.{DiskState}
@@ -19,7 +20,7 @@ use Rattle.sm_root.specs.declared.root.RootSnapshot.{RootSnapshot}
 use Rattle.sm_root.specs.Condition.{map_of}
 use Rattle.volume_store.specs.declared.faults.VolumeFault.{VolumeFault}
 use Rattle.volume_store.specs.declared.faults.VolumeFault.TheVariants.{DiskFault, ReadOnly, BadBlock, NoSpace}
-use Rattle.volume_store.specs.declared.head.Head.{Head}
+use Rattle.sm_root.specs.declared.head.Head.{Head}
 use Rattle.volume_store.specs.declared.io.View.{View}
 use Rattle.volume_store.specs.declared.io.View.TheVariants.{Active, Of}
 use Rattle.volume_store.specs.Held.{Held, IsHeld, block_at, block_start, bytes_at}
@@ -30,13 +31,14 @@ use Rattle.volume_store.specs.Next as store
 use Rattle.volume_store.specs.Opened.{empty_maps}
 use Rattle.volume_store.specs.Refusals.{used_of}
 use Rattle.volume_store.specs.Refusals as store_refusals
-use Rattle.volume_store.specs.Snapshot as store_snapshot
+use Rattle.sm_root.specs.Condition as store_snapshot
 use Rattle.volume_store.proofs.Found.{nowhere}
-use Rattle.volume_store.proofs.Sound.{among_map_from, among_map_to}
+use Rattle.volume_store.proofs.MapLemmas.{among_map}
+use Rattle.volume_store.proofs.Sound.{among_map_from}
 use Rattle.sm_volume.specs.Seen.{block_of, image_of, seen_snapshot, volume_of}
 use Rattle.sm_volume.specs.Mounted.{Mounted, mounted}
 use Rattle.sm_volume.specs.Assigned.{HasBlock, snapped, staying, IsReverted}
-use Rattle.sm_defs.specs.Operations.{IsLeastFree, written, removed, reverted}
+use Rattle.sm_defs.specs.Operations.{IsLeastFree, least_free, written, removed, reverted}
 use Rattle.sm_volume.specs.Refusals.{snapshot_refusal, remove_refusal, write_refusal, read_refusal, revert_refusal, image_seen, unless_seen}
 use Rattle.sm_volume.proofs.BlockLemmas.{bytes_same, volume_used, keeps_others}
 use Rattle.sm_volume.proofs.SeenLemmas.{used_seen, uses_seen, any_seen, has_seen, length_seen, filter_seen, find_seen, up_to_seen, all_images}
@@ -150,6 +152,7 @@ SeesWritten state at bytes old new =
     (b : Block) × IsLeastFree old.volume b.tag × (new ≡ record old { disk = new.disk; volume = written old.volume at b })
     × (IsTrue (state old.disk).told → b.bytes ≡ bytes)
     × (IsTrue (state old.disk).told → block_at (state new.disk).seen b.tag ≡ bytes)
+    × (b.tag ≡ least_free old.volume)
 
 module _ {D : Type 0} (state : D → DiskState) (old new : Held D) (at : ℕ) (bytes : List ℕ) (none : old.after ≡ None)
     (spared : (n : ℕ) → store_maps.IsLeastFree old.maps n → Spares (IsOutside (block_start n) 4096) (state old.disk) (state new.disk)) where
@@ -168,6 +171,7 @@ module _ {D : Type 0} (state : D → DiskState) (old new : Held D) (at : ℕ) (b
             ∙ ap (λ (o : Option Maps). build (written (volume_of [] 0 c old.maps) at (block_of d n)) (option_map (volume_of [] 0 c) o)) (sym none),
         λ told. block_bytes d n h.1.from_one ∙ h.3 told,
         h.3,
+        least_is (volume_of [] 0 c old.maps) n (least_seen c old.maps n h.1),
       )
 
   -- a write that fails changes no block that the volume uses
@@ -223,7 +227,7 @@ pub fetched : (c : disk.Image) (m : Maps) (n : ℕ) (bytes : List ℕ) → 1 ≤
 fetched c m n bytes from used is =
     let found = find_map n (all_maps m.root m.active) used in (
       image_of c found.0,
-      subst (λ (images : List Image). Among images (image_of c found.0)) (sym (all_images [] 0 c m)) (among_map_to (image_of c) (all_maps m.root m.active) found.0 found.1),
+      subst (λ (images : List Image). Among images (image_of c found.0)) (sym (all_images [] 0 c m)) (among_map (image_of c) (all_maps m.root m.active) found.0 found.1),
       subst (λ (bs : List ℕ). Among (image_of c found.0) (let b : Block = record { tag = n; bytes = bs } in b)) (block_bytes c n from ∙ sym is) (has_block c n found.0 found.2),
     )
 
@@ -248,6 +252,20 @@ pub created : (c : disk.Image) (number : VolNo) (kind : Kind) (logical physical 
 created c number kind logical physical =
     let image : image_of c (replicate logical 0) ≡ replicate logical hole = map_replicate (block_of c) logical 0 ∙ ap (replicate logical) (hole_of c) in
     ap (λ (i : Image). let v : Volume = record (new_volume [] 0 kind number.0 logical physical) { active = i; stable = i } in v) image
+
+-- a block of number 0 is the hole
+pub kept_holes : (c : disk.Image) (m : Maps) (b : Block) → HasBlock (volume_of [] 0 c m) b → b.tag ≡ 0 → b ≡ hole
+kept_holes c m b has none =
+    let image = among_map_from (image_of c) (all_maps m.root m.active) has.0 (subst (λ (images : List Image). Among images has.0) (all_images [] 0 c m) has.1) in
+    let number = among_map_from (block_of c) image.0 b (subst (λ (i : Image). Among i b) image.2 has.2) in
+    let tag : b.tag ≡ number.0 = ap (λ (x : Block). x.tag) number.2 in
+    number.2 ∙ ap (block_of c) (sym tag ∙ none) ∙ hole_of c
+
+-- a write that is not refused has a free number
+pub free_seen : (c : disk.Image) (m : Maps) → (n : ℕ) × store_maps.IsLeastFree m n → IsLeastFree (volume_of [] 0 c m) (least_free (volume_of [] 0 c m))
+free_seen c m free =
+    let is = least_seen c m free.0 free.1 in
+    subst (IsLeastFree (volume_of [] 0 c m)) (least_is (volume_of [] 0 c m) free.0 is) is
 
 -- why a write that fails was not refused
 pub write_not_refused : (m : Maps) (at : ℕ) (r : Result (Unit {0}) VolumeFault) → store_refusals.RefusesOrFails (store_refusals.write_refusal m at) r → r ≡ Err DiskFault → store_refusals.write_refusal m at ≡ None

@@ -5,4 +5,5 @@ pub mod MountedLemmas
 pub mod CallLemmas
 pub mod AdoptLemmas
 pub mod RestartLemmas
-pub mod OpenLemmas
+pub mod NumberLemmas
+pub mod Placed

@@ -33,7 +33,7 @@ tags_of_seen path number c m = rw (images_seen c m.root.snapshots) (maps_seen c 
 pub used_seen : (path : List ℕ) (number : ℕ) (c : disk.Image) (m : Maps) → used (volume_of path number c m) ≡ used_of m
 used_seen path number c m = ap distinct (tags_of_seen path number c m)
 
-in_maps : (t : ℕ) (maps : List (List ℕ)) → stands t (flat_map (λ (numbers : List ℕ). numbers) maps) ≡ uses maps t
+pub in_maps : (t : ℕ) (maps : List (List ℕ)) → stands t (flat_map (λ (numbers : List ℕ). numbers) maps) ≡ uses maps t
 in_maps t [] = refl
 in_maps t (ms ∷ maps) = rw (stands-append t ms (flat_map (λ (numbers : List ℕ). numbers) maps), in_maps t maps) refl
 

@@ -7,7 +7,7 @@ use Rattle.sm_defs.specs.Volume.{Volume, Snapshot, images_of}
 use Rattle.sm_defs.specs.Operations.{taken_over, reverted}
 use Rattle.sm_defs.specs.Operations as operations
 use Rattle.sm_defs.specs.Words.{Among, has_ident, same_ident, up_to}
-use Rattle.volume_store.specs.declared.head.Head.{Head}
+use Rattle.sm_root.specs.declared.head.Head.{Head}
 
 -- one of the volume's images has the block
 abbrev pub HasBlock : Volume → Block → Type 0

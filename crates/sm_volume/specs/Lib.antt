@@ -13,4 +13,4 @@ pub mod Assigned
 pub mod Refusals
 pub mod Commits
 pub mod Worlds
-pub mod Opening
+pub mod Numbers

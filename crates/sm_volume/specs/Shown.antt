@@ -22,6 +22,10 @@ pub record Shows (number : VolNo) (v : Volume) (c : Image) : Type 0 where
   pub numbered : root.number ≡ number
   pub same : volume_of v.path v.disk c (record { root = root; active = root.stable }) ≡ opened v
 
+-- the same volume at another path and on a disk of another number
+abbrev pub placed : List ℕ → ℕ → Volume → Volume
+placed path disk v = record v { path = path; disk = disk }
+
 -- and the state of this number is the selected one
 pub record Selects (selected : ℕ) (number : VolNo) (v : Volume) (c : Image) : Type 0 where
   pub state : slot_of c ≡ selected
@@ -30,6 +34,11 @@ pub record Selects (selected : ℕ) (number : VolNo) (v : Volume) (c : Image) : 
 abbrev pub SelectsAfter : ℕ → VolNo → Option Volume → Image → Type 0
 SelectsAfter selected number None c = ⊥
 SelectsAfter selected number (Some v) c = Selects (1 - selected) number v c
+
+-- what a disk shows of a volume says nothing of the path and the disk's number that a node gives it
+pub record ShownAnywhere : Type 0 where
+  pub shows : (number : VolNo) (v : Volume) (path : List ℕ) (disk : ℕ) (c : Image) → Shows number v c → Shows number (placed path disk v) c
+  pub selects : (selected : ℕ) (number : VolNo) (v : Volume) (path : List ℕ) (disk : ℕ) (c : Image) → Selects selected number v c → Selects selected number (placed path disk v) c
 
 -- the volume as it is selected, or the one of a commit whose outcome is not known
 abbrev pub SelectsEither : {D : Type 0} → Mounted D → Image → Type 0

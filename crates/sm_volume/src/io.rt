@@ -1,5 +1,5 @@
 // The calls that read and write blocks.
-ghost use Rattle.std.specs.Prelude.{◌≡◌, ◌⊎◌, ℕ, ◌≤◌, true, false, slice_index_or, OnOk, OnErr, IfOk, Err, IsTrue, Some};
+ghost use Rattle.std.specs.Prelude.{◌≡◌, ◌⊎◌, ℕ, ◌≤◌, true, false, slice_index_or, OnOk, OnErr, IfOk, Err, IsTrue, None, Some};
 ghost use Rattle.sm_disk.specs.Disk.{GoesOn, Steps, IsQuiet, IsSynced, IsCounted};
 ghost use Rattle.sm_defs.specs.Image.{Block as PlainBlock, Image as PlainImage, hole, stands};
 ghost use Rattle.sm_defs.specs.Volume.{tags_of};
@@ -8,7 +8,7 @@ ghost use Rattle.volume_store.specs.Refusals.{RefusesOrFails};
 ghost use Rattle.sm_volume.specs.Mounted.{Mounted, on_disk, fallen};
 ghost use Rattle.sm_volume.specs.Shown.{Selects, KeepsBlocks};
 ghost use Rattle.sm_volume.specs.Assigned.{HasBlock};
-ghost use Rattle.sm_defs.specs.Operations.{IsLeastFree, written};
+ghost use Rattle.sm_defs.specs.Operations.{IsLeastFree, least_free, written};
 ghost use Rattle.sm_volume.specs.Refusals.{write_refusal, read_refusal, image_seen};
 
 use crate::volume::Volume;
@@ -25,12 +25,14 @@ impl<D: Disk> Volume<D> {
         ensures ok { OnOk result ((b : PlainBlock) × IsLeastFree self.old.volume b.tag
             × (self.new ≡ record self.old { disk = self.new.disk; volume = written self.old.volume at b })
             × (IsTrue (D.state self.old.disk).told → b.bytes ≡ block.now.0)
-            × (IsTrue (D.state self.old.disk).told → block_at (D.state self.new.disk).seen b.tag ≡ block.now.0)) }
+            × (IsTrue (D.state self.old.disk).told → block_at (D.state self.new.disk).seen b.tag ≡ block.now.0)
+            × (b.tag ≡ least_free self.old.volume)) }
         ensures fault { result ≡ Err VolumeFault.DiskFault → self.new ≡ fallen self.old self.new.disk }
         ensures counted { result ≡ Err VolumeFault.DiskFault → IsCounted (D.state self.old.disk) (D.state self.new.disk) }
         ensures unchanged { (fault : VolumeFault) → result ≡ Err fault → (fault ≡ VolumeFault.DiskFault → ⊥) → self.new ≡ self.old }
 
-        // Only the block of the least free number is changed, at any moment.
+        // Where it is not refused there is a free number. Only the block of the least one is changed, at any moment.
+        ensures free { write_refusal self.old.volume at ≡ None → IsLeastFree self.old.volume (least_free self.old.volume) }
         ensures blocks { (n : ℕ) → IsLeastFree self.old.volume n → KeepsBlocks (λ k. k ≡ n) (D.state self.old.disk) (D.state self.new.disk) }
         ensures any_moment { GoesOn (D.state self.old.disk) (D.state self.new.disk) (Selects self.old.selected self.old.number self.old.volume) }
     {
@@ -83,6 +85,7 @@ impl<D: Disk> Volume<D> {
         ensures refused { OnErr result (result ≡ Err VolumeFault.DiskFault) }
         ensures ok { OnOk result (self.new ≡ on_disk self.old self.new.disk) }
         ensures bytes { OnOk result (IsTrue (D.state self.old.disk).told → HasBlock self.old.volume (record { tag = number; bytes = into.new.0 })) }
+        ensures block { OnOk result (IsTrue (D.state self.old.disk).told → into.new.0 ≡ block_at (D.state self.old.disk).seen number) }
         ensures quiet { IsQuiet (D.state self.old.disk) (D.state self.new.disk) }
         ensures time { Steps (D.state self.old.disk) (D.state self.new.disk) }
         ensures fault { OnErr result (self.new ≡ fallen self.old self.new.disk) }

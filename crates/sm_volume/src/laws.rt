@@ -1,4 +1,5 @@
 // What an event over several disks owes, and what follows from it at every moment.
+ghost use Rattle.sm_volume.specs.Shown.{ShownAnywhere};
 ghost use Rattle.sm_volume.specs.Worlds.{DisksGoTogether, PartGoesOn, PartIsCommitted};
 
 use sm_disk::Disk;
@@ -9,6 +10,13 @@ use sm_disk::Disk;
 #[tactic(auto, using(crate::proofs::Together::all_together))]
 pub fn disks_go_together<D: Disk>()
     ensures { DisksGoTogether D.state }
+{}
+
+/// What a disk shows of a volume, and which state of it is selected, does not depend on the path and the
+/// disk's number that a node gives the volume: a volume knows neither.
+#[tactic(auto, using(crate::proofs::Placed::anywhere))]
+pub fn shown_at_any_place()
+    ensures { ShownAnywhere }
 {}
 
 /// A disk's part of the world, blocks that landed below a checkpoint included, stays on every image

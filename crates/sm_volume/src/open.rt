@@ -2,11 +2,11 @@
 ghost use Rattle.std.specs.Prelude.{◌≡◌, ◌≤◌, true, [], None, IfOk, IfErr, MatchResult, IsTrue};
 ghost use Rattle.sm_base.specs.declared.limits.TheConstants.{MOST_LOGICAL, MOST_PHYSICAL};
 ghost use Rattle.sm_defs.specs.Volume.{new_volume};
-ghost use Rattle.sm_disk.specs.Disk.{GoesOn, IsCounted, IsSynced};
-ghost use Rattle.volume_store.specs.Opened.{need, IsCreateFault, IsOpenFault};
+ghost use Rattle.sm_disk.specs.Disk.{GoesOn, IsQuiet, IsCounted, IsSynced};
+ghost use Rattle.volume_store.specs.Held.{need};
+ghost use Rattle.volume_store.specs.Opened.{IsCreateFault, IsOpenFault, AnswersEachFault, without_disk};
 ghost use Rattle.sm_volume.specs.Mounted.{Mounted, opened};
 ghost use Rattle.sm_volume.specs.Shown.{Selects, KeepsBlocks, NoBlock};
-ghost use Rattle.sm_volume.specs.Opening.{AnswersEachFault};
 
 use crate::volume::Volume;
 use sm_base::{Kind, VolNo};
@@ -48,19 +48,21 @@ impl<D: Disk> Volume<D> {
         }
     }
 
-    /// Finds a volume on a disk. All that was written before is put onto the medium.
+    /// Finds a volume on a disk. All that was written before is put onto the medium, as the last step.
     ///
     /// # Errors
     ///
-    /// The disk comes back with the fault. [`VolumeFault::DiskSmall`] where the disk is shorter than
+    /// The disk comes back with the fault, and neither what it reads nor what a restart may leave is changed. [`VolumeFault::DiskSmall`] where the disk is shorter than
     /// the smallest volume needs, or shorter than the root's physical size needs;
-    /// [`VolumeFault::BadRoot`] where the selected record is no root, with its first byte that fits
-    /// none; [`VolumeFault::OtherNumber`] where the root is that of another volume.
+    /// [`VolumeFault::BadRoot`] where the selected record is no root, with its slot and its first byte that fits
+    /// none; [`VolumeFault::OtherNumber`] where the root is that of another volume. Where the disk tells its
+    /// content these three come exactly there, but for a failure of the disk and want of memory.
     pub fn open(alloc: Global, disk: D, number: VolNo) -> Result<Volume<D>, (D, VolumeFault)>
         ensures ok { IfOk result (λ v. (v ≡ record v { number = number; after = None; up = true }) × (v.volume ≡ opened v.volume)
             × (IsTrue (D.state disk).told → Selects v.selected number v.volume (D.state disk).seen)) }
         ensures faults { IfErr result (λ e. IsOpenFault (D.state disk) number e.1) }
-        ensures exact { AnswersEachFault (D.state disk) number result }
+        ensures exact { AnswersEachFault (D.state disk) number (without_disk result) }
+        ensures unchanged { IfErr result (λ e. IsQuiet (D.state disk) (D.state e.0)) }
         ensures counted { IfErr result (λ e. e.1 ≡ VolumeFault.DiskFault → IsCounted (D.state disk) (D.state e.0)) }
         ensures seen { MatchResult result (λ v. (D.state v.disk).seen ≡ (D.state disk).seen) (λ e. (D.state e.0).seen ≡ (D.state disk).seen) }
         ensures any_moment { MatchResult result (λ v. GoesOn (D.state disk) (D.state v.disk) (D.state disk).may_leave) (λ e. GoesOn (D.state disk) (D.state e.0) (D.state disk).may_leave) }

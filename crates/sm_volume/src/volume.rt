@@ -1,9 +1,11 @@
 // A volume, and what holds of it.
-ghost use Rattle.std.specs.Prelude.{◌≡◌};
+ghost use Rattle.std.specs.Prelude.{◌≡◌, ◌≤◌};
 
 use sm_base::Ident;
+use sm_bits::BitMap;
 use sm_disk::Disk;
 use sm_root::Root;
+use sm_space::Space;
 use std::marker::Model;
 use volume_store::Store;
 
@@ -25,6 +27,7 @@ impl<D: Disk> Volume<D> {
     ghost use Rattle.sm_defs.specs.Volume.{has, used};
     ghost use Rattle.sm_volume.specs.Seen.{root_of};
     ghost use Rattle.sm_volume.specs.Kept.{IsKept};
+    ghost use Rattle.sm_volume.specs.Numbers.{AreFreeOn, AreHeldOn};
 
     /// What holds of every volume, whenever it is asked.
     pub fn told(&self)
@@ -57,9 +60,24 @@ impl<D: Disk> Volume<D> {
 
     /// How many physical blocks the active image, the stable one and the snapshots use.
     pub fn used(&self) -> u32
-        ensures { result ≡ used self.now.volume }
+        ensures value { result ≡ used self.now.volume }
+        ensures within { result ≤ self.now.volume.physical }
     {
         self.store.used()
+    }
+
+    /// The numbers of the blocks that no image of the volume uses.
+    pub fn space(&self) -> &Space
+        ensures { AreFreeOn result.now self.now.volume }
+    {
+        self.store.space()
+    }
+
+    /// The numbers of the blocks that the volume's snapshots use, and 0.
+    pub fn held(&self) -> &BitMap
+        ensures { AreHeldOn result.now self.now.volume }
+    {
+        self.store.held()
     }
 
     /// How often the disk has failed.

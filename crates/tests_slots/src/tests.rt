@@ -1,11 +1,13 @@
-ghost use Rattle.std.specs.Prelude.{◌<◌};
-ghost use Rattle.sm_slots.specs.Stored.{IsFramed, slots_end};
+ghost use Rattle.std.specs.Prelude.{◌≡◌, ◌^◌, ◌<◌, length, false, IfOk};
+ghost use Rattle.sm_slots.specs.Stored.{IsFramed, is_blank, slots_end};
 ghost use Rattle.sm_slots.specs.Slots.{IsSettled};
 
-use crate::{commit_and_restart, framed, restart_and_open};
+use sm_base::NoMemory;
 use sm_disk::Disk;
 use sm_memdisk::{Image, MemDisk};
-use sm_slots::{RecordFault, SLOT_LEN, SLOTS_END, SlotFault, Slots};
+use sm_slots::{
+    RecordFault, SLOT_LEN, SLOTS_END, SlotFault, Slots, commit_and_restart, restart_and_open,
+};
 use std::alloc::Global;
 use std::test::Fail;
 
@@ -21,6 +23,17 @@ const RECORD: [u8; 44] = [
     0x53, 0x4d, 0x43, 0x41, 0x54, 0x4c, 0x30, 0x31, 0, 0, 0, 0x20, 0, 0, 0, 0, 0, 0, 0, 0, 0, 0, 0,
     1, 0, 0, 0, 0, 0, 0, 0, 1, 0, 0, 0, 0, 0, 0, 0, 0, 0, 0, 0, 0,
 ];
+
+// A record with this magic word and this body.
+fn framed(alloc: Global, magic: &[u8], body: &[u8]) -> Result<Vec<u8>, NoMemory>
+    requires eight { length magic.now ≡ 8 }
+    requires not_blank { is_blank magic.now ≡ false }
+    requires short { length body.now < 2 ^ 32 }
+
+    ensures { IfOk result (λ made. IsFramed made.items) }
+{
+    sm_fields::framed(alloc, magic, body)
+}
 
 #[test]
 fn reads_what_was_committed(rt: HostRuntime) -> Result<(), Fail> {

@@ -11,6 +11,8 @@ mod plain;
 #[cfg(test)]
 mod restarts;
 #[cfg(test)]
+mod sending;
+#[cfg(test)]
 mod table;
 pub mod tools;
 #[cfg(test)]

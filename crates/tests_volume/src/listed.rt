@@ -2,22 +2,33 @@
 ghost use Rattle.std.specs.Prelude.{◌≡◌, true};
 ghost use Rattle.laws_volume.specs.Assigned.{AskNothing};
 
-use crate::tools::{byte_of, check_up, small};
+use crate::tools::{byte_of, check_up, full, small};
 use laws_volume::{Call, perform_all};
 use sm_memdisk::MemDisk;
 use sm_volume::{View, Volume, VolumeFault};
 use std::alloc::Global;
 use std::test::Fail;
 
-// Writes before and after a consistency point, and a restart.
-fn calls() -> [Call; 5]
+// Writes before and after a consistency point, what is put onto the medium and read, and a restart.
+fn calls() -> [Call; 7]
     ensures { AskNothing result }
 {
     [
         Call::MakeWritable,
-        Call::Write { at: 0, fill: 7 },
+        Call::Write {
+            at: 0,
+            block: full(7),
+        },
         Call::ConsistencyPoint,
-        Call::Write { at: 0, fill: 8 },
+        Call::Write {
+            at: 0,
+            block: full(8),
+        },
+        Call::Sync,
+        Call::Read {
+            view: View::Active,
+            at: 0,
+        },
         Call::Restart,
     ]
 }

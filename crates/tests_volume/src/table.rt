@@ -6,6 +6,7 @@ use crate::plain::{Call, Kept, Plain};
 use crate::tools::{
     full, make_writable, opened, read, remove, restart, revert, settle, snapshot, write,
 };
+use sm_base::limits::BLOCKS_START;
 use sm_base::{Ident, Kind, SnapName, VolNo};
 use sm_memdisk::MemDisk;
 use sm_root::Root;
@@ -15,7 +16,7 @@ use std::process::Abort;
 use std::test::Fail;
 
 // The length of a disk of six blocks.
-const SIX_BLOCKS: u64 = 25_751_552;
+const SIX_BLOCKS: u64 = BLOCKS_START + 6 * 4096;
 
 // The identities of the image that landed, of two snapshots of clients and of none.
 const LANDED: Ident = Ident { origin: 7, seq: 3 };

@@ -7,4 +7,5 @@ pub mod Shown
 pub mod Sound
 pub mod Used
 pub mod Found
+pub mod RootRead
 pub mod Committed

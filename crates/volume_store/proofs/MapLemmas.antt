@@ -1,14 +1,15 @@
 -- Members of lists of maps, and the numbers that they use.
 use Rattle.std.proofs.Common.{◌≡◌, ◌⊎◌, inl, inr, ℕ, zero, suc, ◌+◌, ◌<◌, ◌≤◌, List, [], ◌∷◌, ◌++◌, length, get_or, slice_get, Some, None, take, drop, map, Bool, true, false, not, ◌||◌, ◌==◌, refl, sym, subst, ◌∙◌, ap, arith}
-use Rattle.std.proofs.lemmas.Bool.{cases_eq, cases_order}
+use Rattle.std.proofs.lemmas.Bool.{cases_eq, cases_order, or_left, or_right}
 use Rattle.std.proofs.lemmas.Bool.Decides.{nat_tests}
-use Rattle.std.proofs.lemmas.List.{length-map, get_or-map, get_or_past, get_or_append_left, get_or-append-add, take-append-drop}
+use Rattle.std.proofs.lemmas.List.{get_or-map, get_or_past, get_or_append_left, get_or-append-add, take-append-drop}
 use Rattle.sm_bits.specs.Places.{has}
 use Rattle.sm_defs.specs.Image.{stands}
 use Rattle.sm_defs.specs.Words.{Among}
 use Rattle.sm_root.specs.declared.root.RootSnapshot.{RootSnapshot}
 use Rattle.sm_root.specs.Condition.{map_of}
 use Rattle.sm_space.specs.Free.{free_of}
+use Rattle.sm_space.proofs.FreeLemmas.{length-free_of}
 use Rattle.volume_store.specs.Maps.{uses, AreUsed, AreFree}
 use Rattle.volume_store.proofs.PutLemmas.{stands_at, uses_one}
 
@@ -20,10 +21,6 @@ among_get (x ∷ xs) (suc i) d less = inr (among_get xs i d (omega arith))
 pub among_map : {X Y : Type 0} (f : X → Y) (xs : List X) (x : X) → Among xs x → Among (map f xs) (f x)
 among_map f [] x is = absurd is
 among_map f (y ∷ ys) x is = elim is [ inl here ↦ inl (ap f here) | inr there ↦ inr (among_map f ys x there) ]
-
-pub length-free_of : (used : List Bool) → length (free_of used) ≡ length used
-length-free_of [] = refl
-length-free_of (hole ∷ numbers) = ap suc (length-map numbers (λ u. not u))
 
 pub has-free_of : (used : List Bool) (n : ℕ) → 1 ≤ n → n < length used → has (free_of used) n ≡ not (has used n)
 has-free_of [] n one less = absurd (omega arith)
@@ -126,14 +123,6 @@ stands-append t (x ∷ xs) ys = or_assoc (x == t) (stands t xs) (stands t ys) (s
     or_assoc true b c e h = refl
     or_assoc false b c e h = h
 
-or_left_is : (a b : Bool) → a ≡ true → (a || b) ≡ true
-or_left_is true b h = refl
-or_left_is false b h = absurd (cc)
-
-or_right_is : (a b : Bool) → b ≡ true → (a || b) ≡ true
-or_right_is true b h = refl
-or_right_is false b h = h
-
 either_is : (a b : Bool) → (a || b) ≡ true → (a ≡ true) ⊎ (b ≡ true)
 either_is true b h = inl refl
 either_is false b h = inr h
@@ -142,8 +131,8 @@ either_is false b h = inr h
 pub stands_part : (n at k : ℕ) (xs : List ℕ) → stands n (take k (drop at xs)) ≡ true → stands n xs ≡ true
 stands_part n at k xs h =
     let behind : stands n (drop at xs) ≡ true = subst (λ (l : List ℕ). stands n l ≡ true) (take-append-drop k (drop at xs))
-    (stands-append n (take k (drop at xs)) (drop k (drop at xs)) ∙ or_left_is (stands n (take k (drop at xs))) (stands n (drop k (drop at xs))) h) in
-    subst (λ (l : List ℕ). stands n l ≡ true) (take-append-drop at xs) (stands-append n (take at xs) (drop at xs) ∙ or_right_is (stands n (take at xs)) (stands n (drop at xs)) behind)
+    (stands-append n (take k (drop at xs)) (drop k (drop at xs)) ∙ or_left (stands n (take k (drop at xs))) (stands n (drop k (drop at xs))) h) in
+    subst (λ (l : List ℕ). stands n l ≡ true) (take-append-drop at xs) (stands-append n (take at xs) (drop at xs) ∙ or_right (stands n (take at xs)) (stands n (drop at xs)) behind)
 
 -- what stands in a map stands at one of its places
 pub index_known : (set : List Bool) (x : List ℕ) → ((i : ℕ) → i < length x → has set (get_or x i 0) ≡ true) → (n : ℕ) → stands n x ≡ true → has set n ≡ true

@@ -14,7 +14,7 @@ use Rattle.sm_slots.proofs.Settled.{selects_spared}
 use Rattle.sm_slots.specs.Stored.{Record, stored, slot_of}
 use Rattle.sm_slots.specs.Slots.{BehindSlots, Selects, IsSettled, IsCommitted, IsBeforeOrAfter}
 use Rattle.volume_store.specs.Maps.{Maps, uses}
-use Rattle.volume_store.specs.Held.{Held, block_at, block_start, Shows, ShowsAfter, ShowsEither, IsAsLarge, IsHeld}
+use Rattle.volume_store.specs.Held.{Held, block_at, block_start, Shows, ShowsAfter, ShowsEither, IsAsLarge, IsHeld, need}
 
 pub block-same : (c d : Image) (n : ℕ) → SameAt BehindSlots c d → block_at d n ≡ block_at c n
 unfolding block_at
@@ -136,7 +136,7 @@ module _ {D : Type 0} (state : D → DiskState) (v : Held D) (held : IsHeld stat
   wrote_any_moment = weaker (state v.disk) (state later) (state later).may_leave (Shows v.number v.maps.root (state v.disk).seen) time shown_later
 
 -- a disk on which all stands shows what it reads
-pub held_made : {D : Type 0} (state : D → DiskState) (disk : D) (number : ℕ) (maps : Maps) → IsRoot maps.root → 25726976 + 4096 * maps.root.physical ≤ (state disk).size → number < 2
+pub held_made : {D : Type 0} (state : D → DiskState) (disk : D) (number : ℕ) (maps : Maps) → IsRoot maps.root → need maps.root.physical ≤ (state disk).size → number < 2
     → IsSynced (state disk) → (IsTrue (state disk).told → Selects (state disk).seen number (Record (spelling maps.root)))
     → IsHeld state (record { disk = disk; number = number; maps = maps; after = None; up = true })
 held_made state disk number maps good room small synced selects = record {
@@ -160,7 +160,7 @@ pub held_next : {D : Type 0} (state : D → DiskState) (v : Held D) → IsHeld s
 held_next state v held up next good bytes is physical later spared number other committed =
     let none = held.decided up in
     let told = spared.any_moment.told in
-    let room : 25726976 + 4096 * next.root.physical ≤ (state later).size = rw (physical, spared.any_moment.size) held.room in
+    let room : need next.root.physical ≤ (state later).size = rw (physical, spared.any_moment.size) held.room in
     let small : number < 2 = omega (arith, other) in
     let made = held_made state later number next good room small committed.synced (λ yes. subst (λ (b : List ℕ). Selects (state later).seen number (Record b)) is (committed.selects (subst IsTrue told yes))) in
     record {

@@ -12,9 +12,10 @@ use Rattle.sm_root.specs.declared.root.Root.{Root}
 use Rattle.sm_root.specs.declared.root.RootSnapshot.{RootSnapshot}
 use Rattle.sm_root.specs.Condition.{IsRoot, IsSnapshot, StandsAt, ident_of, map_of, maps_of}
 use Rattle.volume_store.specs.Maps.{Maps, AreMapsOf, all_maps}
-use Rattle.volume_store.specs.declared.head.Head.{Head}
-use Rattle.volume_store.specs.Snapshot.{snapshot_of, IsHead}
+use Rattle.sm_root.specs.declared.head.Head.{Head}
+use Rattle.sm_root.specs.Condition.{snapshot_of, IsHead}
 use Rattle.volume_store.specs.Next.{staying, without, snapped, adopted, reverted, next_after}
+use Rattle.volume_store.proofs.MapLemmas.{among_map}
 
 pub among_filter : {X : Type 0} (p : X → Bool) (xs : List X) (x : X) → Among (filter p xs) x → Among xs x
 among_filter p [] x is = is
@@ -30,10 +31,6 @@ among_append (z ∷ zs) ys x is = ⊎_elim (λ here. inl (inl here)) (λ there. 
 pub among_map_from : {X Y : Type 0} (f : X → Y) (xs : List X) (y : Y) → Among (map f xs) y → (x : X) × Among xs x × (y ≡ f x)
 among_map_from f [] y is = absurd is
 among_map_from f (z ∷ zs) y is = ⊎_elim (λ here. (z, inl refl, here)) (λ there. let w = among_map_from f zs y there in (w.0, inr w.1, w.2)) is
-
-pub among_map_to : {X Y : Type 0} (f : X → Y) (xs : List X) (x : X) → Among xs x → Among (map f xs) (f x)
-among_map_to f [] x is = absurd is
-among_map_to f (z ∷ zs) x is = ⊎_elim (λ here. inl (ap f here)) (λ there. inr (among_map_to f zs x there)) is
 
 pub all_from : {X : Type 0} (P : X → Type 0) (xs : List X) → ((x : X) → Among xs x → P x) → AllByRecursion P xs
 all_from P [] each = tt
@@ -105,7 +102,7 @@ length_filter_le p (x ∷ xs) = elim (cases_Bool (p x)) [
 pub among_staying : (p : RootSnapshot → Bool) (xs : List RootSnapshot) (x : List ℕ) → Among (map map_of (filter p xs)) x → Among (map map_of xs) x
 among_staying p xs x is =
     let w = among_map_from map_of (filter p xs) x is in
-    subst (Among (map map_of xs)) (sym w.2) (among_map_to map_of xs w.0 (among_filter p xs w.0 w.1))
+    subst (Among (map map_of xs)) (sym w.2) (among_map map_of xs w.0 (among_filter p xs w.0 w.1))
 
 module _ (m : Maps) (good : IsRoot m.root) (maps : AreMapsOf m.root.logical m.root.physical (all_maps m.root m.active)) where
   -- some snapshots go
@@ -134,7 +131,7 @@ module _ (m : Maps) (good : IsRoot m.root) (maps : AreMapsOf m.root.logical m.ro
         (λ x is. ⊎_elim (λ a. inl a) (λ b. ⊎_elim (λ a. inl a) (λ k.
         let w = among_map_from map_of (m.root.snapshots ++ s ∷ []) x k in
         ⊎_elim
-        (λ old. inr (inr (subst (Among (map map_of m.root.snapshots)) (sym w.2) (among_map_to map_of m.root.snapshots w.0 old))))
+        (λ old. inr (inr (subst (Among (map map_of m.root.snapshots)) (sym w.2) (among_map map_of m.root.snapshots w.0 old))))
         (λ one. ⊎_elim (λ here. inl (w.2 ∙ ap map_of here ∙ of_active)) (λ none. absurd none) one)
         (among_append m.root.snapshots (s ∷ []) w.0 w.1)) b) is)
 
@@ -162,7 +159,7 @@ module _ (m : Maps) (good : IsRoot m.root) (maps : AreMapsOf m.root.logical m.ro
         (λ x is. ⊎_elim (λ a. inl a) (λ b. ⊎_elim (λ a. inl a) (λ k.
         let w = among_map_from map_of (staying drops (m.root.snapshots ++ s ∷ [])) x k in
         ⊎_elim
-        (λ old. inr (subst (Among (map map_of (staying drops m.root.snapshots))) (sym w.2) (among_map_to map_of (staying drops m.root.snapshots) w.0 old)))
+        (λ old. inr (subst (Among (map map_of (staying drops m.root.snapshots))) (sym w.2) (among_map map_of (staying drops m.root.snapshots) w.0 old)))
         (λ here. inl (w.2 ∙ ap map_of here))
         (among_both w.0 w.1)) b) is)
 
@@ -180,10 +177,10 @@ module _ (m : Maps) (good : IsRoot m.root) (maps : AreMapsOf m.root.logical m.ro
     maps_reverted = maps_among m.root.logical m.root.physical (all_maps m.root m.active) (all_maps (reverted m s.map family list).root s.map) maps
         (λ x any. ⊎_elim (λ a. kept_one x a) (λ b. ⊎_elim (λ a. kept_one x a) (λ k.
         let w = among_map_from map_of list x k in
-        inr (inr (subst (Among (map map_of m.root.snapshots)) (sym w.2) (among_map_to map_of m.root.snapshots w.0 (from w.0 w.1))))) b) any)
+        inr (inr (subst (Among (map map_of m.root.snapshots)) (sym w.2) (among_map map_of m.root.snapshots w.0 (from w.0 w.1))))) b) any)
       where
         kept_one : (x : List ℕ) → x ≡ s.map → Among (all_maps m.root m.active) x
-        kept_one x e = inr (inr (subst (Among (map map_of m.root.snapshots)) (sym e) (among_map_to map_of m.root.snapshots s is)))
+        kept_one x e = inr (inr (subst (Among (map map_of m.root.snapshots)) (sym e) (among_map map_of m.root.snapshots s is)))
 
     pub good_reverted : IsRoot (reverted m s.map family list).root
     good_reverted = remade m.root good (reverted m s.map family list).root refl refl refl small good.counted

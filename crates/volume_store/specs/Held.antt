@@ -1,5 +1,6 @@
 -- What a volume is, and what the images of its disk show of it.
 use Rattle.std.specs.Prelude.{◌≡◌, ◌⊎◌, ℕ, ◌+◌, ◌*◌, ◌-◌, ◌<◌, ◌≤◌, ◌==◌, if◌then◌else◌, List, Bool, true, false, Option, Some, None}
+use Rattle.sm_base.specs.declared.limits.TheConstants.{BLOCKS_START}
 use Rattle.sm_base.specs.declared.numbers.Side.{Side}
 use Rattle.sm_base.specs.declared.numbers.Side.TheVariants.{Before, After}
 use Rattle.sm_defs.specs.Image.{hole}
@@ -14,7 +15,11 @@ use Rattle.volume_store.specs.Maps.{Maps, uses}
 
 -- where physical block n lies, n from 1
 abbrev pub block_start : ℕ → ℕ
-block_start n = 25726976 + 4096 * (n - 1)
+block_start n = BLOCKS_START + 4096 * (n - 1)
+
+-- how many bytes a disk needs for so many physical blocks
+abbrev pub need : ℕ → ℕ
+need physical = BLOCKS_START + 4096 * physical
 
 -- the bytes of physical block n
 unfoldable pub block_at : Image → ℕ → List ℕ
@@ -50,7 +55,7 @@ IsAsLarge (Some maps) root = (maps.root.logical ≡ root.logical) × (maps.root.
 
 -- Each image of the disk shows the volume, or while a commit's outcome is not known one of the two.
 pub record IsHeld {D : Type 0} (state : D → DiskState) (v : Held D) : Type 0 where
-  pub room : 25726976 + 4096 * v.maps.root.physical ≤ (state v.disk).size
+  pub room : need v.maps.root.physical ≤ (state v.disk).size
   pub one_of_two : v.number < 2
   pub as_large : IsAsLarge v.after v.maps.root
   pub decided : v.up ≡ true → v.after ≡ None

@@ -4,7 +4,6 @@ pub use Rattle.sm_disk.specs.Spared
 pub mod Maps
 pub mod Held
 pub mod Next
-pub mod Snapshot
 pub mod Refusals
 pub mod Commits
 pub mod Opened

@@ -3,23 +3,24 @@ ghost use Rattle.std.specs.Prelude.{◌≡◌, ◌⊎◌, ◌-◌, ◌+◌, ◌<
 ghost use Rattle.sm_disk.specs.Disk.{GoesOn, IsCounted};
 ghost use Rattle.sm_disk.specs.Spared.{Spares};
 ghost use Rattle.sm_defs.specs.Words.{Among};
+ghost use Rattle.sm_root.specs.declared.TheConstants.{RECORD_SNAPSHOTS};
 ghost use Rattle.sm_root.specs.declared.root.RootSnapshot.{RootSnapshot};
 ghost use Rattle.sm_slots.specs.Slots.{BehindSlots};
 ghost use Rattle.std.specs.List.{list_all};
 ghost use Rattle.volume_store.specs.Held.{Held, Shows};
 ghost use Rattle.volume_store.specs.Maps.{Maps, AreMapsOf};
-ghost use Rattle.volume_store.specs.Snapshot.{snapshot_of};
+ghost use Rattle.sm_root.specs.Condition.{snapshot_of};
 ghost use Rattle.volume_store.specs.Next.{staying, map_maps, settled, snapped, without, adopted, writable, reverted, IsReverted};
 ghost use Rattle.volume_store.specs.Refusals.{Refuses, revert_refusal, cp_refusal, snapshot_refusal, remove_refusal, adopt_refusal, has_name, has_snapshot};
 ghost use Rattle.volume_store.specs.Commits.{Commits};
 
 use crate::faults::VolumeFault;
-use crate::head::Head;
 use crate::held::Store;
 use crate::next::{is_among, same, staying_of};
+use sm_base::limits::MOST_SNAPSHOTS;
 use sm_base::{Ident, Kind, Label, NoMemory, SnapName};
 use sm_disk::Disk;
-use sm_root::{BlockMap, RootSnapshot};
+use sm_root::{BlockMap, Head, RootSnapshot};
 use std::alloc::Global;
 
 impl<D: Disk> Store<D> {
@@ -149,9 +150,6 @@ impl<D: Disk> Store<D> {
     }
 }
 
-// The greatest number of snapshots of a volume.
-const MOST_SNAPSHOTS: usize = 255;
-
 // Whether a snapshot has the name.
 fn has_name(snapshots: &[RootSnapshot], name: &[u8]) -> bool
     ensures { result ≡ has_name snapshots.now name.now }
@@ -187,7 +185,7 @@ fn count_staying(drops: &[Ident], snapshots: &[RootSnapshot]) -> usize
 
 // How many there are with a new one of this identity.
 fn count_with_new(drops: &[Ident], snapshots: &[RootSnapshot], ident: Ident) -> usize
-    requires { length snapshots.now ≤ 255 }
+    requires { length snapshots.now ≤ RECORD_SNAPSHOTS }
     ensures { (s : RootSnapshot) → s.ident ≡ ident → result ≡ length (staying drops.now (snapshots.now ++ s ∷ [])) }
 {
     let count = count_staying(drops, snapshots);

@@ -13,7 +13,7 @@ pub enum VolumeFault {
     NoSnapshot,
     /// A snapshot of the volume has the name.
     NameTaken,
-    /// The volume would have more than 255 snapshots, or its clients have taken all that have a number.
+    /// The volume would have more than [`MOST_SNAPSHOTS`](sm_base::limits::MOST_SNAPSHOTS) snapshots, or its clients have taken all that have a number.
     SnapFull,
     /// The disk is shorter than the volume needs.
     DiskSmall {
@@ -24,6 +24,8 @@ pub enum VolumeFault {
     },
     /// The disk's selected record is no root.
     BadRoot {
+        /// The slot that is selected, 0 or 1: where its record begins [`slot_start_of`](sm_slots::slot_start_of) says.
+        slot: u8,
         /// The first byte of the record that fits no root.
         at: u32,
     },

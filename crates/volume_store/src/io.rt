@@ -5,7 +5,7 @@ ghost use Rattle.sm_disk.specs.Disk.{GoesOn, Steps, IsQuiet, IsSynced, IsCounted
 ghost use Rattle.sm_disk.specs.Spared.{Spares};
 ghost use Rattle.volume_store.specs.Held.{Held, Shows, IsOpenBlock, on_disk, fallen, block_at, block_start, bytes_at};
 ghost use Rattle.sm_defs.specs.Image.{hole};
-ghost use Rattle.volume_store.specs.Maps.{IsLeastFree, all_maps, uses};
+ghost use Rattle.volume_store.specs.Maps.{IsLeastFree, AreFree, AreUsed, all_maps, held_maps, uses};
 ghost use Rattle.volume_store.specs.Refusals.{RefusesOrFails, write_refusal, read_refusal, map_seen, used_of, has_snapshot};
 ghost use Rattle.sm_defs.specs.Words.{Among};
 ghost use Rattle.sm_root.specs.declared.root.RootSnapshot.{RootSnapshot};
@@ -14,8 +14,10 @@ use crate::calls::has_snapshot;
 use crate::faults::VolumeFault;
 use crate::held::Store;
 use sm_base::{Block, Ident, Kind};
+use sm_bits::BitMap;
 use sm_disk::Disk;
 use sm_root::Root;
+use sm_space::Space;
 
 /// Which image of a volume is read.
 #[derive(Clone, Copy, Debug, PartialEq, Eq)]
@@ -36,9 +38,24 @@ impl<D: Disk> Store<D> {
 
     /// How many physical blocks the active image, the stable one and the snapshots use.
     pub fn used(&self) -> u32
-        ensures { result ≡ used_of self.now.maps }
+        ensures value { result ≡ used_of self.now.maps }
+        ensures within { result ≤ self.now.maps.root.physical }
     {
         self.state.used()
+    }
+
+    /// The numbers that no map uses: each from 1 to the physical size is in it or used.
+    pub fn space(&self) -> &Space
+        ensures { AreFree result.now self.now.maps.root.physical (all_maps self.now.maps.root self.now.maps.active) }
+    {
+        self.state.space()
+    }
+
+    /// The numbers that the snapshots use, and 0.
+    pub fn held(&self) -> &BitMap
+        ensures { AreUsed result.now self.now.maps.root.physical (held_maps self.now.maps.root) }
+    {
+        self.state.held()
     }
 
     /// Whether the volume has a snapshot of the identity.

@@ -9,7 +9,7 @@
 mod blocks;
 mod calls;
 mod faults;
-mod head;
+mod finding;
 mod held;
 mod io;
 mod marks;
@@ -20,6 +20,7 @@ mod restart;
 mod state;
 
 pub use faults::VolumeFault;
-pub use head::Head;
+pub use finding::look;
 pub use held::Store;
 pub use io::View;
+pub use sm_root::Head;

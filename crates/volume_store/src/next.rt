@@ -2,21 +2,20 @@
 ghost use Rattle.std.specs.Prelude.{◌≡◌, ◌≢◌, ℕ, ◌<◌, ◌≤◌, ◌*◌, ◌==◌, suc, cond, ◌^◌, not, true, false, length, map, position, replicate, List, ◌∷◌, ◌++◌, [], take, Some, IfOk, OnErr, MatchOption};
 ghost use Rattle.std.specs.List.{filter};
 ghost use Rattle.sm_base.specs.declared.limits.TheConstants.{MOST_SNAPSHOTS, MOST_LOGICAL, MOST_PHYSICAL, LAST_NUMBER};
+ghost use Rattle.sm_root.specs.declared.TheConstants.{RECORD_SNAPSHOTS};
 ghost use Rattle.sm_root.specs.declared.root.RootSnapshot.{RootSnapshot};
 ghost use Rattle.volume_store.specs.Opened.{empty_maps};
-ghost use Rattle.volume_store.specs.Snapshot.{snapshot_of};
 ghost use Rattle.sm_defs.specs.Words.{Among, same_ident, has_ident, up_to, KeysDiffer};
-ghost use Rattle.sm_root.specs.Condition.{IsRoot, IsSnapshot, ident_of, map_of};
+ghost use Rattle.sm_root.specs.Condition.{IsRoot, IsSnapshot, ident_of, map_of, snapshot_of};
 ghost use Rattle.volume_store.specs.Maps.{all_maps, kept_maps, AreMapsOf, AreMarks};
 ghost use Rattle.volume_store.specs.Next.{map_maps, settled, snapped, next_after, staying, without, adopted, writable, reverted, IsReverted, IsWith};
 ghost use Rattle.volume_store.specs.Refusals.{revert_refusal};
 
 use crate::faults::VolumeFault;
-use crate::head::Head;
 use crate::marks::{Marks, held_numbers, map_numbers, united};
 use crate::state::{State, snapshot_of_ident};
 use sm_base::{Ident, Kind, NoMemory, VolNo};
-use sm_root::{BlockMap, Root, RootSnapshot, Snapshots};
+use sm_root::{BlockMap, Head, Root, RootSnapshot, Snapshots};
 use std::alloc::Global;
 
 // Whether two identities are one.
@@ -274,7 +273,7 @@ fn place_of(snapshots: &[RootSnapshot], ident: Ident) -> Option<usize>
 
 // How many snapshots there are up to the one of this identity.
 fn count_up_to(snapshots: &[RootSnapshot], ident: Ident) -> usize
-    requires { length snapshots.now ≤ 255 }
+    requires { length snapshots.now ≤ RECORD_SNAPSHOTS }
     ensures { take result snapshots.now ≡ up_to (λ t. same_ident t.ident ident) snapshots.now }
 {
     match place_of(snapshots, ident) {
@@ -285,7 +284,7 @@ fn count_up_to(snapshots: &[RootSnapshot], ident: Ident) -> usize
 
 // How many of the first snapshots stay: all, or those up to the one of this identity.
 fn count_kept(snapshots: &[RootSnapshot], ident: Ident, drop_newer: bool) -> usize
-    requires { length snapshots.now ≤ 255 }
+    requires { length snapshots.now ≤ RECORD_SNAPSHOTS }
     ensures { take result snapshots.now ≡ cond drop_newer (up_to (λ t. same_ident t.ident ident) snapshots.now) snapshots.now }
 {
     if drop_newer {

@@ -1,19 +1,19 @@
 // A volume is made on a disk, or found there.
 ghost use Rattle.std.specs.Prelude.{◌≡◌, ◌⊎◌, ℕ, ◌≤◌, ◌<◌, true, None, IfOk, IfErr, MatchResult, IsTrue};
 ghost use Rattle.sm_base.specs.declared.limits.TheConstants.{MOST_LOGICAL, MOST_PHYSICAL};
-ghost use Rattle.sm_disk.specs.Disk.{GoesOn, IsCounted, IsSynced};
+ghost use Rattle.sm_disk.specs.Disk.{GoesOn, IsQuiet, IsCounted, IsSynced};
 ghost use Rattle.sm_disk.specs.Spared.{Spares};
 ghost use Rattle.sm_slots.specs.Slots.{BehindSlots};
 ghost use Rattle.sm_slots.specs.Stored.{slot_of};
 ghost use Rattle.sm_root.specs.Condition.{IsRoot};
 ghost use Rattle.sm_root.specs.declared.root.Root.{Root};
-ghost use Rattle.volume_store.specs.Held.{Held};
-ghost use Rattle.volume_store.specs.Opened.{empty_maps, need, IsCreateFault, IsOpenFault, IsStateFault, IsRootOn};
+ghost use Rattle.volume_store.specs.Held.{Held, need};
+ghost use Rattle.volume_store.specs.Opened.{empty_maps, IsCreateFault, IsOpenFault, IsRootOn, AnswersEachFault, without_disk};
 
 use crate::blocks::need_of;
 use crate::faults::VolumeFault;
+use crate::finding::look;
 use crate::held::Store;
-use crate::reading::read_root;
 use crate::state::State;
 use sm_base::{Kind, NoMemory, VolNo};
 use sm_disk::Disk;
@@ -74,19 +74,22 @@ impl<D: Disk> Store<D> {
         }
     }
 
-    /// Finds a volume on a disk. All that was written before is put onto the medium.
+    /// Finds a volume on a disk. All that was written before is put onto the medium, as the last step.
     ///
     /// # Errors
     ///
-    /// The disk comes back with the fault. [`VolumeFault::DiskSmall`] where the disk is shorter than
+    /// The disk comes back with the fault, and neither what it reads nor what a restart may leave is changed. [`VolumeFault::DiskSmall`] where the disk is shorter than
     /// the smallest volume needs, or shorter than the root's physical size needs;
     /// [`VolumeFault::BadRoot`] where the selected record is no root, with its first byte that fits
-    /// none; [`VolumeFault::OtherNumber`] where the root is that of another volume.
+    /// none; [`VolumeFault::OtherNumber`] where the root is that of another volume. Where the disk tells its
+    /// content these three come exactly there, but for a failure of the disk and want of memory.
     pub fn open(alloc: Global, disk: D, number: VolNo) -> Result<Store<D>, (D, VolumeFault)>
         ensures ok { IfOk result (λ v. (r : Root) × (r.number ≡ number)
             × (v ≡ record { disk = v.disk; number = v.number; maps = record { root = r; active = r.stable }; after = None; up = true })
             × (IsTrue (D.state disk).told → IsRootOn (D.state disk).seen r)) }
         ensures faults { IfErr result (λ e. IsOpenFault (D.state disk) number e.1) }
+        ensures exact { AnswersEachFault (D.state disk) number (without_disk result) }
+        ensures unchanged { IfErr result (λ e. IsQuiet (D.state disk) (D.state e.0)) }
         ensures counted { IfErr result (λ e. e.1 ≡ VolumeFault.DiskFault → IsCounted (D.state disk) (D.state e.0)) }
         ensures seen { MatchResult result (λ v. (D.state v.disk).seen ≡ (D.state disk).seen) (λ e. (D.state e.0).seen ≡ (D.state disk).seen) }
         ensures any_moment { MatchResult result (λ v. GoesOn (D.state disk) (D.state v.disk) (D.state disk).may_leave) (λ e. GoesOn (D.state disk) (D.state e.0) (D.state disk).may_leave) }
@@ -105,10 +108,7 @@ impl<D: Disk> Store<D> {
     }
 }
 
-// The need of the smallest volume.
-const LEAST_NEED: u64 = 25_731_072;
-
-// Finds the slots and the root of a volume.
+// Finds the slots and the state of a volume. Nothing is put onto the medium before all else is done.
 fn find_on<D: Disk>(
     alloc: Global,
     disk: &mut D,
@@ -119,43 +119,23 @@ fn find_on<D: Disk>(
     ensures slot { IfOk result (λ p. (p.0 < 2) × (IsTrue (D.state disk.old).told → p.0 ≡ slot_of (D.state disk.old).seen)) }
     ensures synced { IfOk result (λ p. IsSynced (D.state disk.new)) }
     ensures faults { IfErr result (IsOpenFault (D.state disk.old) number) }
+    ensures exact { AnswersEachFault (D.state disk.old) number result }
     ensures counted { result ≡ Err VolumeFault.DiskFault → IsCounted (D.state disk.old) (D.state disk.new) }
+    ensures unchanged { IfErr result (λ e. IsQuiet (D.state disk.old) (D.state disk.new)) }
     ensures seen { (D.state disk.new).seen ≡ (D.state disk.old).seen }
     ensures any_moment { GoesOn (D.state disk.old) (D.state disk.new) (D.state disk.old).may_leave }
 {
-    let len = disk.len();
-    if len < LEAST_NEED {
-        return Err(VolumeFault::DiskSmall {
-            need: LEAST_NEED,
-            len,
-        });
-    }
+    let (slots, root) = look(alloc, disk, number)?;
+    let state = found_state(alloc, root)?;
     disk.sync()?;
-    let slots = match Slots::open(disk) {
-        Ok(slots) => slots,
-        Err(_) => return Err(VolumeFault::DiskFault),
-    };
-    let root = read_root(alloc, disk, &slots)?;
-    let state = found_state(alloc, root, number, len)?;
-    let _slot = slots.slot();
     Ok((slots, state))
 }
 
-// The state of a root that was read from a disk of this length.
-fn found_state(alloc: Global, root: Root, number: VolNo, len: u64) -> Result<State, VolumeFault>
+// The state of a root that was read from a disk.
+fn found_state(alloc: Global, root: Root) -> Result<State, NoMemory>
     requires { IsRoot root }
-    ensures ok { IfOk result (λ state. (state ≡ record { root = root; active = root.stable }) × (root.number ≡ number) × (need root.physical ≤ len)) }
-    ensures faults { IfErr result (IsStateFault root number len) }
+    ensures { IfOk result (λ state. state ≡ record { root = root; active = root.stable }) }
 {
-    let need = need_of(root.physical);
-    if len < need {
-        return Err(VolumeFault::DiskSmall { need, len });
-    }
-    if root.number.0 != number.0 {
-        return Err(VolumeFault::OtherNumber {
-            found: root.number.0,
-        });
-    }
     let active = root.stable.to_vec(alloc)?;
-    Ok(State::new(alloc, root, active)?)
+    State::new(alloc, root, active)
 }

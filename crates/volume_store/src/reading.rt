@@ -2,20 +2,17 @@
 ghost use Rattle.std.specs.Prelude.{◌≡◌, ◌+◌, ◌≤◌, ◌<◌, Err, length, IfOk, IfErr, OnErr, IsTrue};
 ghost use Rattle.sm_disk.specs.Image.{part};
 ghost use Rattle.sm_disk.specs.Disk.{GoesOn, IsQuiet, IsCounted};
-ghost use Rattle.sm_slots.specs.Stored.{Record, stored, slot_of, slot_start, slots_end};
+ghost use Rattle.sm_slots.specs.Stored.{Record, stored, slot_len, slot_of, slot_start, slots_end};
 ghost use Rattle.volume_store.specs.declared.faults.VolumeFault.TheVariants.{DiskFault};
 ghost use Rattle.sm_root.specs.Condition.{IsRoot};
-ghost use Rattle.volume_store.specs.Opened.{DiffersFirst, IsRootOn, IsReadFault};
+ghost use Rattle.volume_store.specs.Opened.{DiffersFirst, IsRootOn, IsReadFault, ReadsRecord, ReadsRoot};
 
 use crate::faults::VolumeFault;
 use sm_base::Failed;
 use sm_disk::Disk;
-use sm_root::{Root, RootFault, decode};
+use sm_root::{MAGIC, Root, RootFault, decode};
 use sm_slots::{RecordFault, Slots, slot_start_of};
 use std::alloc::Global;
-
-/// The magic word of a root.
-pub(crate) const MAGIC: [u8; 8] = *b"SMROOT01";
 
 // The first byte that differs from the magic word, or 8.
 fn first_difference(bytes: &[u8]) -> u32
@@ -51,19 +48,26 @@ fn read_record<D: Disk>(alloc: Global, disk: &mut D, slots: &Slots) -> Result<Ve
     requires selected { IsTrue (D.state disk.old).told → slots.now ≡ slot_of (D.state disk.old).seen }
 
     ensures bytes { IfOk result (λ bytes. IsTrue (D.state disk.old).told → stored (D.state disk.old).seen ≡ Record bytes.items) }
-    ensures short { IfOk result (λ bytes. length bytes.items ≤ 4456448) }
+    ensures short { IfOk result (λ bytes. length bytes.items ≤ slot_len) }
     ensures faults { IfErr result (IsReadFault (D.state disk.old)) }
+    ensures exact { IsTrue (D.state disk.old).told → ReadsRecord (D.state disk.old).seen (stored (D.state disk.old).seen) result }
     ensures quiet { IsQuiet (D.state disk.old) (D.state disk.new) }
     ensures time { GoesOn (D.state disk.old) (D.state disk.new) (D.state disk.old).may_leave }
     ensures counted { result ≡ Err DiskFault → IsCounted (D.state disk.old) (D.state disk.new) }
 {
     match slots.record(alloc, disk) {
         Ok(Some(bytes)) => Ok(bytes),
-        Ok(None) => Err(VolumeFault::BadRoot { at: 0 }),
+        Ok(None) => Err(VolumeFault::BadRoot {
+            slot: slots.slot(),
+            at: 0,
+        }),
         Err(RecordFault::DiskFault) => Err(VolumeFault::DiskFault),
         Err(RecordFault::NoMemory) => Err(VolumeFault::NoMemory),
         Err(RecordFault::BadLength) => match magic_fault(disk, slots.slot()) {
-            Ok(at) => Err(VolumeFault::BadRoot { at }),
+            Ok(at) => Err(VolumeFault::BadRoot {
+                slot: slots.slot(),
+                at,
+            }),
             Err(Failed) => Err(VolumeFault::DiskFault),
         },
     }
@@ -81,6 +85,7 @@ pub(crate) fn read_root<D: Disk>(
     ensures good { IfOk result (λ root. IsRoot root) }
     ensures root { IfOk result (λ root. IsTrue (D.state disk.old).told → IsRootOn (D.state disk.old).seen root) }
     ensures faults { IfErr result (IsReadFault (D.state disk.old)) }
+    ensures exact { IsTrue (D.state disk.old).told → ReadsRoot (D.state disk.old).seen result }
     ensures quiet { IsQuiet (D.state disk.old) (D.state disk.new) }
     ensures time { GoesOn (D.state disk.old) (D.state disk.new) (D.state disk.old).may_leave }
     ensures counted { result ≡ Err DiskFault → IsCounted (D.state disk.old) (D.state disk.new) }
@@ -88,7 +93,10 @@ pub(crate) fn read_root<D: Disk>(
     let bytes = read_record(alloc, disk, slots)?;
     match decode(alloc, &bytes) {
         Ok(root) => Ok(root),
-        Err(RootFault::Bad { at }) => Err(VolumeFault::BadRoot { at }),
+        Err(RootFault::Bad { at }) => Err(VolumeFault::BadRoot {
+            slot: slots.slot(),
+            at,
+        }),
         Err(RootFault::NoMemory) => Err(VolumeFault::NoMemory),
     }
 }

@@ -6,21 +6,19 @@ ghost use Rattle.sm_base.specs.declared.limits.TheConstants.{MOST_SNAPSHOTS, LAS
 ghost use Rattle.volume_store.specs.Refusals.{is_full, used_of, read_refusal, map_seen, has_snapshot};
 ghost use Rattle.volume_store.specs.Next.{next_after};
 ghost use Rattle.sm_root.specs.Condition.{IsRoot};
-ghost use Rattle.volume_store.specs.Maps.{Maps, all_maps, AreMapsOf, AreMarks, uses, IsLeastFree};
+ghost use Rattle.volume_store.specs.Maps.{Maps, all_maps, held_maps, AreFree, AreMapsOf, AreMarks, AreUsed, uses, IsLeastFree};
 
 use crate::faults::VolumeFault;
 use crate::io::View;
 use crate::marks::{Marks, exchange, remark, united};
 use crate::next::same;
+use sm_base::limits::{LAST_NUMBER, MOST_SNAPSHOTS};
 use sm_base::{Ident, NoMemory};
 use sm_bits::BitMap;
 use sm_root::{Root, RootSnapshot};
 use sm_space::Space;
 use std::alloc::Global;
 use std::marker::Model;
-
-// The number that no client's snapshot reaches.
-const LAST_NUMBER: u64 = 1 << 62;
 
 /// The root of a volume with its active map.
 #[derive(Debug, Drop)]
@@ -123,7 +121,7 @@ impl State {
         ensures counted { result ≡ false → next_after self.now.root ident ≤ LAST_NUMBER }
     {
         let next = self.root.next;
-        self.root.snapshots.as_slice().len() == 255
+        self.root.snapshots.as_slice().len() == MOST_SNAPSHOTS
             || (ident.seq == 2 * next && next == LAST_NUMBER)
     }
 
@@ -153,9 +151,24 @@ impl State {
 
     /// How many different numbers the maps use.
     pub(crate) fn used(&self) -> u32
-        ensures { result ≡ used_of self.now }
+        ensures value { result ≡ used_of self.now }
+        ensures within { result ≤ self.now.root.physical }
     {
         self.space.used()
+    }
+
+    /// The numbers that no map uses.
+    pub(crate) fn space(&self) -> &Space
+        ensures { AreFree result.now self.now.root.physical (all_maps self.now.root self.now.active) }
+    {
+        &self.space
+    }
+
+    /// The numbers that the snapshots use.
+    pub(crate) fn held(&self) -> &BitMap
+        ensures { AreUsed result.now self.now.root.physical (held_maps self.now.root) }
+    {
+        &self.marks.held
     }
 
     /// The least free number, if there is one.

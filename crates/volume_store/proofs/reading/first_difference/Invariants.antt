@@ -1,5 +1,5 @@
 use Rattle.std.proofs.Common.{◌≡◌, ℕ, ◌<◌, slice_index}
-use Rattle.volume_store.specs.declared.reading.TheConstants.{MAGIC}
+use Rattle.sm_root.specs.declared.TheConstants.{MAGIC}
 use Rattle.volume_store.proofs.reading.first_difference.Given as goal
 
 abbrev pub invariant-loop-at : goal.invariant-loop-at

@@ -1,7 +1,7 @@
 use Rattle.std.proofs.Common.{◌≡◌, false, refl, sym, subst}
 use Rattle.sm_defs.specs.Volume.{has}
 use Rattle.volume_store.specs.Next as store
-use Rattle.volume_store.specs.Snapshot as store_snapshot
+use Rattle.sm_root.specs.Condition as store_snapshot
 use Rattle.volume_store.specs.Refusals.{Refuses}
 use Rattle.sm_volume.specs.Mounted.{Mounted, mounted}
 use Rattle.sm_volume.specs.Seen.{image_of}

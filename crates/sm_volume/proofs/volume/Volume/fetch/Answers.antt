@@ -1,6 +1,7 @@
 use Rattle.std.proofs.Common.{◌≡◌, [], IsTrue, OnOk, sym, ap, ◌∙◌, true, subst}
 use Rattle.sm_defs.specs.Image.{stands}
 use Rattle.sm_defs.specs.Volume.{tags_of}
+use Rattle.volume_store.specs.Held.{block_at}
 use Rattle.volume_store.specs.Maps.{all_maps, uses}
 use Rattle.sm_volume.specs.Mounted.{Mounted}
 use Rattle.sm_volume.specs.Assigned.{HasBlock}
@@ -13,6 +14,11 @@ fetch-requires-clause-used g c =
     let state = g.D.Disk.state in
     let old = c.self.inside.store in
     sym (uses_seen [] 0 (state old.disk).seen old.maps c.args.number) ∙ ap (λ (v : Mounted _). stands c.args.number (tags_of v.volume)) c.self.view_is ∙ c.requires.used
+
+pub returns-clause-block : goal.returns-clause-block
+returns-clause-block g c =
+    let state = g.D.Disk.state in
+    subst (λ (v : Mounted _). OnOk c.fetch.result (IsTrue (state v.disk).told → c.fetch.new.into.0 ≡ block_at (state v.disk).seen c.args.number)) c.self.view_is c.fetch.ensures.bytes
 
 pub returns-clause-bytes : goal.returns-clause-bytes
 returns-clause-bytes g c =

@@ -5,7 +5,7 @@ use Rattle.volume_store.specs.Maps.{AreMapsOf}
 use Rattle.sm_volume.specs.Seen.{volume_of}
 use Rattle.sm_volume.specs.Kept.{IsKept}
 use Rattle.sm_volume.proofs.SeenLemmas.{root_seen, all_tags}
-use Rattle.sm_volume.proofs.CallLemmas.{kept_blocks}
+use Rattle.sm_volume.proofs.CallLemmas.{kept_blocks, kept_holes}
 use Rattle.sm_volume.proofs.RestartLemmas.{selects_side}
 use Rattle.sm_volume.proofs.volume.Volume.told.Goals as goal
 
@@ -18,6 +18,7 @@ returns g c =
     subst (IsKept state) c.self.view_is (record {
       images = subst (AreMapsOf old.maps.root.logical old.maps.root.physical) (sym (all_tags [] 0 image old.maps)) c.told.ensures.maps;
       blocks = kept_blocks image old.maps;
+      holes = kept_holes image old.maps;
       good = subst IsRoot (sym (root_seen [] 0 image old.maps)) c.told.ensures.good;
       room = held.room;
       one_of_two = held.one_of_two;

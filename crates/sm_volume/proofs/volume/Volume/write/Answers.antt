@@ -1,4 +1,4 @@
-use Rattle.std.proofs.Common.{◌≡◌, [], ℕ, OnOk, sym, ap, ◌∙◌, subst}
+use Rattle.std.proofs.Common.{◌≡◌, [], ℕ, OnOk, None, sym, ap, ◌∙◌, subst}
 use Rattle.sm_disk.specs.Disk.{GoesOn}
 use Rattle.sm_disk.proofs.Moments.{weaker}
 use Rattle.volume_store.specs.Refusals.{RefusesOrFails}
@@ -6,11 +6,11 @@ use Rattle.volume_store.specs.Held.{Shows}
 use Rattle.sm_volume.specs.Mounted.{Mounted, mounted}
 use Rattle.sm_volume.specs.Mounted.{fallen}
 use Rattle.sm_volume.specs.Shown.{Selects, KeepsBlocks}
-use Rattle.sm_defs.specs.Operations.{IsLeastFree}
+use Rattle.sm_defs.specs.Operations.{IsLeastFree, least_free}
 use Rattle.sm_volume.specs.Refusals.{write_refusal}
 use Rattle.sm_volume.proofs.BlockLemmas.{keeps_others}
 use Rattle.sm_volume.proofs.MountedLemmas.{shows_seen}
-use Rattle.sm_volume.proofs.CallLemmas.{SeesWritten, sees_written, write_refused, write_failed, write_not_refused, least_kept}
+use Rattle.sm_volume.proofs.CallLemmas.{SeesWritten, sees_written, free_seen, write_refused, write_failed, write_not_refused, least_kept}
 use Rattle.sm_volume.proofs.volume.Volume.write.Goals as goal
 
 pub returns-clause-refused : goal.returns-clause-refused
@@ -27,6 +27,13 @@ returns-clause-ok g c =
     let none = c.told.ensures.held.decided (ap (λ (v : Mounted _). v.up) c.self.view_is ∙ c.requires.up) in
     subst (λ (v : Mounted _). OnOk c.write.result (SeesWritten state c.args.at c.args.block.now.0 v (mounted state c.write.new.self))) c.self.view_is
     (sees_written state old c.write.new.self c.args.at c.args.block.now.0 none c.write.ensures.spared c.write.result c.write.ensures.ok)
+
+pub returns-clause-free : goal.returns-clause-free
+returns-clause-free g c =
+    let state = g.D.Disk.state in
+    let old = c.self.inside.store in
+    subst (λ (v : Mounted _). write_refusal v.volume c.args.at ≡ None → IsLeastFree v.volume (least_free v.volume)) c.self.view_is
+    (λ none. free_seen (state old.disk).seen old.maps (c.write.ensures.free (sym (write_refused (state old.disk).seen old.maps c.args.at) ∙ none)))
 
 pub returns-clause-fault : goal.returns-clause-fault
 returns-clause-fault g c = λ e.

@@ -2,7 +2,7 @@ use Rattle.std.proofs.Common.{◌≡◌, List, ℕ, ◌∙◌, ap, subst}
 use Rattle.volume_store.specs.Held.{Held}
 use Rattle.volume_store.specs.Maps.{Maps}
 use Rattle.volume_store.specs.Next.{adopted}
-use Rattle.volume_store.specs.Snapshot.{snapshot_of}
+use Rattle.sm_root.specs.Condition.{snapshot_of}
 use Rattle.volume_store.specs.Commits.{Commits}
 use Rattle.volume_store.proofs.Committed.{committed}
 use Rattle.volume_store.proofs.held.Store.adopt.Goals as goal

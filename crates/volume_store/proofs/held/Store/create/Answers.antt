@@ -3,6 +3,7 @@ use Rattle.sm_root.specs.Condition.{IsRoot}
 use Rattle.sm_root.specs.Spelling.{spelling}
 use Rattle.sm_slots.specs.Slots.{Selects}
 use Rattle.sm_slots.specs.Stored.{Record}
+use Rattle.volume_store.specs.Held.{need}
 use Rattle.volume_store.specs.Maps.{Maps}
 use Rattle.volume_store.proofs.Framed.{framed_root}
 use Rattle.volume_store.proofs.Shown.{held_made}
@@ -19,6 +20,6 @@ invariant_of-result g c =
     let told = c.in-Ok-format.ensures.spared.any_moment.told in
     let physical : c.in-Ok.state.root.physical ≡ c.args.physical = ap (λ (m : Maps). m.root.physical) c.in-Ok.ensures in
     let size = c.in-Ok-format.ensures.spared.any_moment.size in
-    let long : 25726976 + 4096 * c.in-Ok.state.root.physical ≤ new.size = rw (size, physical) (let n = c.need_of-need.ensures in let l = c.len-len.ensures in omega arith) in
+    let long : need c.in-Ok.state.root.physical ≤ new.size = rw (size, physical) (let n = c.need_of-need.ensures in let l = c.len-len.ensures in omega arith) in
     held_made g.D.Disk.state c.format.new.disk c.in-Ok-format.slots c.in-Ok.state (subst IsRoot c.root.ensures.value c.root.ensures.good) long (rw c.in-Ok-format.ensures.first (omega arith)) c.in-Ok-format.ensures.committed.synced
     (λ is_told. subst (λ (b : List ℕ). Selects new.seen c.in-Ok-format.slots (Record b)) bytes (c.in-Ok-format.ensures.committed.selects (subst IsTrue told is_told)))

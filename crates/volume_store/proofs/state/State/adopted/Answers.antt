@@ -5,7 +5,7 @@ use Rattle.sm_root.specs.declared.root.RootSnapshot.{RootSnapshot}
 use Rattle.sm_root.specs.Condition.{IsRoot}
 use Rattle.volume_store.specs.Maps.{Maps, AreMapsOf, AreMarks, all_maps}
 use Rattle.volume_store.specs.Next.{staying, adopted}
-use Rattle.volume_store.specs.Snapshot.{snapshot_of}
+use Rattle.sm_root.specs.Condition.{snapshot_of}
 use Rattle.volume_store.proofs.Sound.{maps_adopted, good_adopted, maps_of_root, moved_maps, head_fits}
 use Rattle.volume_store.proofs.MarkLemmas.{all_stay}
 use Rattle.sm_base.specs.declared.numbers.Ident.{Ident}

@@ -4,7 +4,7 @@ use Rattle.sm_root.specs.declared.root.RootSnapshot.{RootSnapshot}
 use Rattle.sm_root.specs.Condition.{IsRoot}
 use Rattle.volume_store.specs.Maps.{Maps, AreMapsOf, AreMarks, all_maps}
 use Rattle.volume_store.specs.Next.{snapped, next_after}
-use Rattle.volume_store.specs.Snapshot.{snapshot_of}
+use Rattle.sm_root.specs.Condition.{snapshot_of}
 use Rattle.sm_bits.specs.Places.{union_of}
 use Rattle.volume_store.proofs.MarkLemmas.{marks_moved, snapped_marks}
 use Rattle.volume_store.proofs.Sound.{maps_snapped, good_snapped, moved_maps, next_counted, head_fits}
