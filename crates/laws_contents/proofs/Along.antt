@@ -6,14 +6,14 @@ use Rattle.sm_defs.specs.Words.{Among, same_ident, or_else}
 use Rattle.sm_defs.specs.Image.{Image, SameContents}
 use Rattle.sm_defs.specs.Volume.{Volume, Snapshot}
 use Rattle.sm_defs.specs.World.{Up, volume_at}
+use Rattle.sm_defs.proofs.Idents.{same_is}
+use Rattle.sm_defs.proofs.Searches.{find_none}
 use Rattle.sm_model.specs.World.{Deed}
 use Rattle.sm_model.specs.Standing.{Stands}
 use Rattle.sm_model.specs.Opened.{opened}
 use Rattle.sm_model.specs.Origin.{makes, origin, origin_from, found_active, lowest_copy}
 use Rattle.sm_model.specs.Sound.{SoundUp}
-use Rattle.laws_transfer.proofs.Lists.{same_is}
 use Rattle.laws_contents.specs.Contents.{WasThere, WasTaken, IsTraced, HasOrigin, AllHaveOrigins}
-use Rattle.laws_cases.proofs.Lists.Members.{find_none}
 use Rattle.laws_cases.proofs.Steps.Parties.{snapshot_is, lacked}
 use Rattle.laws_copies.proofs.Growing.{Grown}
 use Rattle.laws_copies.proofs.Spent.{Spent, KeepsReserved, spent_stays, spent_opened, standing_spent}

@@ -8,11 +8,11 @@ use Rattle.sm_defs.specs.Image.{bytes_of}
 use Rattle.std.proofs.Common.{map}
 use Rattle.sm_defs.specs.Volume.{Snapshot}
 use Rattle.sm_defs.specs.World.{Up}
+use Rattle.sm_defs.proofs.Idents.{is_same, same_is}
 use Rattle.sm_model.specs.World.{Deed}
 use Rattle.sm_model.specs.Origin.{made_by, makes}
 use Rattle.sm_model.specs.LegalRun.{IsDeed}
 use Rattle.sm_model.specs.Sound.{SoundUp}
-use Rattle.laws_transfer.proofs.Lists.{same_is, is_same}
 use Rattle.laws_contents.specs.Contents.{WasThere, WasTaken, IsTraced}
 use Rattle.laws_copies.proofs.Copies.{ComesFrom}
 use Rattle.laws_copies.proofs.Brings.{Brings, copies, one_new, deed_brings}

@@ -7,15 +7,15 @@ use Rattle.sm_defs.specs.Thinned.{Thinned}
 use Rattle.sm_defs.specs.World.{Up, volume_at, with_volume}
 use Rattle.sm_model.specs.OfVolumes.{client_snapshot}
 use Rattle.sm_defs.specs.Operations.{with_snapshot}
+use Rattle.sm_defs.proofs.Members.{among_append}
+use Rattle.sm_defs.proofs.Thinned.{filter_thins, thinned_among}
 use Rattle.sm_model.specs.Running.{Running, IsRunning}
 use Rattle.sm_model.specs.Steps.{Effect, reverted, prepared_snapshot, arrived, published}
 use Rattle.sm_model.specs.Due.{StepKind, IsEffect, IsStep, by_transfer, by_tidy, reserved_leg, goes, is_tidied}
 use Rattle.sm_model.specs.Sound.{SoundUp}
-use Rattle.laws_transfer.proofs.Lists.{among_append, copy_from_has}
-use Rattle.laws_transfer.proofs.Kept.{filter_thins}
+use Rattle.laws_transfer.proofs.Lists.{copy_from_has}
 use Rattle.laws_cases.proofs.Answers.Walk.{going}
 use Rattle.laws_cases.proofs.Needed.Needs.{set_cases, push_within}
-use Rattle.laws_cases.proofs.Lists.Thinned.{thinned_among}
 use Rattle.laws_copies.proofs.Fresh.{client_fresh}
 use Rattle.laws_cases.proofs.Steps.Parties.{snapshot_is, at_x}
 use Rattle.laws_cases.proofs.Steps.DueCases.{Ahead, IsDue, due_revert, due_finish, due_settle, due_prepare, due_prune, due_publish, due_checkpoint, due_ship, kind_is_due}

@@ -18,16 +18,17 @@ use Rattle.laws_copies.proofs.Numbered.{Apart}
 use Rattle.laws_cases.proofs.Lists.TransferNumbers.{same_relation}
 use Rattle.sm_model.specs.Origin.{made_by}
 use Rattle.sm_defs.specs.Operations.{with_snapshot}
+use Rattle.sm_defs.proofs.Members.{among_append, among_get_or, among_right, set_at}
+use Rattle.sm_defs.proofs.Thinned.{all_kept, filter_thins, thinned_among}
+use Rattle.sm_defs.proofs.Searches.{found_within}
+use Rattle.std.proofs.lemmas.List.{length-set}
 use Rattle.sm_model.specs.OfVolumes.{client_ident, snapped, client_snapshot}
 use Rattle.sm_model.specs.Running.{Running, IsRunning}
 use Rattle.sm_model.specs.Steps.{Effect, reverted, arrived, published, prepared_snapshot}
 use Rattle.sm_model.specs.Due.{StepKind, reserved_leg, IsEffect, IsStep, by_transfer, by_tidy, is_tidied, goes}
 use Rattle.sm_model.specs.LegalRun.{IsStepDeed, IsDeed}
-use Rattle.laws_transfer.proofs.Lists.{among_append, among_right, has_from_copy}
-use Rattle.laws_transfer.proofs.Kept.{filter_thins}
+use Rattle.laws_transfer.proofs.Lists.{has_from_copy}
 use Rattle.laws_cases.proofs.Answers.Walk.{going}
-use Rattle.laws_cases.proofs.Lists.Members.{among_get_or, found_within, length_set, set_at}
-use Rattle.laws_cases.proofs.Lists.Thinned.{all_kept, thinned_among}
 use Rattle.laws_cases.proofs.Lists.Frames.{stands_set, stands_push}
 use Rattle.laws_copies.proofs.Copies.{ComesFrom, AllCome, stays}
 use Rattle.laws_copies.proofs.Fresh.{client_fresh}
@@ -87,7 +88,7 @@ client_unspent w v a (by_client c e l h) = let n : (volume_at w v.at).next ≡ v
 client_unspent w v a (by_transfer_number number e l h) = omega arith
 
 client_spent : (w : Up) (v : Found Volume) (name : List ℕ) (label : Option (List ℕ)) → v.at < length w.volumes → Spent (with_volume w v.at (snapped v.at w.clock v.item name label)) (client_ident v.at v.item)
-client_spent w v name label l = by_client v.item.next refl (rw (length_set w.volumes v.at (snapped v.at w.clock v.item name label)) l)
+client_spent w v name label l = by_client v.item.next refl (rw (length-set w.volumes v.at (snapped v.at w.clock v.item name label)) l)
     (rw (set_at w.volumes v.at (snapped v.at w.clock v.item name label) no_volume l) (omega arith))
 
 client_number : (w : Up) (ev : Event) (v : Found Volume) (path name : List ℕ) (label : Option (List ℕ)) → SoundUp w → WritableAt w v → v.at < length w.volumes → ev ≡ events.Snap path name label →
@@ -95,7 +96,7 @@ client_number : (w : Up) (ev : Event) (v : Found Volume) (path name : List ℕ) 
 unfolding IsGiven
 client_number w ev v path name label s a l so = record {
   stands = λ given. record {
-    origin = rw (length_set w.volumes v.at (snapped v.at w.clock v.item name label)) l;
+    origin = rw (length-set w.volumes v.at (snapped v.at w.clock v.item name label)) l;
     seq = clients v.item.next (record {
       seq = refl;
       counts = (s.formed.volumes v.item a.among).counted.0;
@@ -151,7 +152,7 @@ reserved_number : (w : Up) (k : ℕ) (x : Running) → SoundUp w → IsRunning w
 reserved_number w k x s r =
     let here : Among w.relations x.relation = relation_stands w k x r in let d = s.crossed.relations x.relation here in let t = s.crossed.transfers x.relation x.transfer here r.transfer in record {
       stands = λ given. record {
-        origin = rw (length_set w.volumes x.relation.source (with_snapshot x.source (prepared_snapshot w x (reserved_leg x)))) d.source;
+        origin = rw (length-set w.volumes x.relation.source (with_snapshot x.source (prepared_snapshot w x (reserved_leg x)))) d.source;
         seq = transfers x.transfer.number (record {
           seq = refl;
           given = t.given;

@@ -14,7 +14,6 @@ use Rattle.sm_model.specs.Opened.{opened}
 use Rattle.sm_model.specs.TagsFit.{TagsFit}
 use Rattle.sm_model.specs.CopiesAgree.{CopiesAgree}
 use Rattle.sm_model.specs.Sound.{SoundUp}
-use Rattle.laws_transfer.proofs.Lists.{from_map}
 use Rattle.laws_cases.proofs.Answers.Changes as answers
 use Rattle.laws_cases.proofs.Answers.Changes.{Is, IsAnswer}
 use Rattle.laws_cases.proofs.Answers.OfAnswer.{of_answer}
@@ -24,6 +23,7 @@ use Rattle.laws_copies.proofs.Brings as brings
 use Rattle.laws_copies.proofs.Brings.{Brings, copies, one_new, step_brings, deed_brings}
 use Rattle.laws_copies.proofs.TagsStay as tags
 use Rattle.sm_defs.specs.Operations as operations
+use Rattle.sm_defs.proofs.Members.{from_map}
 
 pub answers_keep_tags : (w : Up) (e : Event) (reached : Reached) → SoundUp w → answer w e ≡ Some (Ok reached) → TagsFit reached.world
 answers_keep_tags w e reached s i = tags.of_answer w reached.world e reached.reply s (from_answer (Is w e) (answer w e) reached (of_answer w e) i)

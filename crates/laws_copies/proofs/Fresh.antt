@@ -5,13 +5,14 @@ use Rattle.sm_defs.specs.Words.{Found, found, Among}
 use Rattle.sm_defs.specs.Volume.{Volume, Snapshot, no_volume, has}
 use Rattle.sm_defs.specs.World.{Up, volume_at}
 use Rattle.sm_defs.specs.Relationship.{Relationship, Transfer}
+use Rattle.sm_defs.proofs.Searches.{found_at}
+use Rattle.sm_defs.proofs.Members.{among_get_or}
 use Rattle.sm_model.specs.Standing.{Stands}
 use Rattle.sm_model.specs.NumbersStand.{NumbersStand, IsNumbered, clients, transfers}
 use Rattle.sm_model.specs.OfVolumes as volumes
 use Rattle.sm_model.specs.Crossed.{IsReservedLeg}
 use Rattle.sm_model.specs.Sound.{SoundUp}
 use Rattle.laws_transfer.proofs.Lists.{copy_from_has}
-use Rattle.laws_cases.proofs.Lists.Members.{found_at, among_get_or}
 
 pub client_fresh : (w : Up) (p : Volume → Bool) (f : Found Volume) → NumbersStand w → found p w.volumes ≡ Some f →
     (u : Volume) (s : Snapshot) → Stands w u s → ¬ (s.ident ≡ record { origin = f.at; seq = 2 * f.item.next })

@@ -18,15 +18,15 @@ use Rattle.sm_model.specs.Steps.{Effect, with_destination}
 use Rattle.sm_model.specs.Due.{StepKind, revert, finish, settle, prepare, prune, publish, checkpoint, ship, settled_relation, IsEffect, IsStep, by_transfer, by_tidy}
 use Rattle.sm_model.specs.World.{Deed}
 use Rattle.sm_model.specs.LegalRun.{IsDeed, IsStepDeed}
-use Rattle.laws_transfer.proofs.Lists.{among_append, from_map, among_filter}
 use Rattle.laws_cases.proofs.Answers.Walk.{going}
-use Rattle.laws_cases.proofs.Lists.Members.{among_set, length_set}
 use Rattle.laws_cases.proofs.Steps.Parties.{relation_stands}
 use Rattle.laws_cases.proofs.Needed.Needs.{set_cases, push_within, mapped_at}
 use Rattle.laws_cases.proofs.Answers.Changes as answers
 use Rattle.laws_cases.proofs.Answers.Changes.{IsChange, IsAnswer, Follows, Starts}
 use Rattle.laws_cases.proofs.Answers.Deeds.{IsAnswered, deed_cases}
 use Rattle.sm_defs.specs.Operations as operations
+use Rattle.sm_defs.proofs.Members.{among_append, among_filter, among_set, from_map}
+use Rattle.std.proofs.lemmas.List.{length-set}
 
 -- a relationship's transfer has a new number, or stood before from the same source
 pub data FromOld (old : Up) (r : Relationship) (t : Transfer) : Type 0 where
@@ -48,7 +48,7 @@ grown_same w = record { count = omega arith; next = λ v h. omega arith; next_tr
 
 -- one volume is changed, and its number does not go back
 pub grown_volume : (w : Up) (k : ℕ) (u : Volume) → (volume_at w k).next ≤ u.next → Grown w (with_volume w k u)
-grown_volume w k u h = record { count = let e = length_set w.volumes k u in omega arith; next = λ v l. go v (set_cases w.volumes k v u no_volume); next_transfer = omega arith; next_relation = omega arith; transfers = stays_from w }
+grown_volume w k u h = record { count = let e = length-set w.volumes k u in omega arith; next = λ v l. go v (set_cases w.volumes k v u no_volume); next_transfer = omega arith; next_relation = omega arith; transfers = stays_from w }
   where
     go : (v : ℕ) → (volume_at (with_volume w k u) v ≡ volume_at w v) ⊎ ((v ≡ k) × (volume_at (with_volume w k u) v ≡ u)) → (volume_at w v).next ≤ (volume_at (with_volume w k u) v).next
     go v (inl e) = rw e (omega arith)

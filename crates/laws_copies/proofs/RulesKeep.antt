@@ -11,11 +11,12 @@ use Rattle.sm_defs.specs.Relationship.{Rule, Policy, rule_for, is_mirror}
 use Rattle.sm_defs.specs.Retention.{keeps, keeps_by_rule, retained}
 use Rattle.sm_defs.specs.Needed.{needed}
 use Rattle.sm_defs.specs.World.{Up, policy_at, no_policy}
+use Rattle.sm_defs.proofs.Searches.{find_is}
+use Rattle.sm_defs.proofs.Members.{among_get_or}
 use Rattle.sm_model.specs.Formed.{FormedPolicy}
 use Rattle.sm_model.specs.Sound.{SoundUp}
 use Rattle.sm_model.specs.Running.{Running, IsRunning}
 use Rattle.sm_model.specs.Steps.{arrived}
-use Rattle.laws_cases.proofs.Lists.Members.{find_is, among_get_or}
 use Rattle.laws_cases.proofs.Steps.Parties.{relation_stands, snapshot_is}
 use Rattle.laws_cases.proofs.Steps.DueCases.{Ahead}
 use Rattle.laws_cases.proofs.Needed.Leaving.{last_kept}

@@ -6,11 +6,11 @@ use Rattle.sm_defs.specs.Volume.{Volume, Snapshot, has}
 use Rattle.sm_defs.specs.Relationship.{Relationship, Transfer}
 use Rattle.sm_defs.specs.Legs.{made_ident}
 use Rattle.sm_defs.specs.World.{Up, volume_at}
+use Rattle.sm_defs.proofs.Members.{among_right}
 use Rattle.sm_model.specs.Standing.{Stands}
 use Rattle.sm_model.specs.NumbersStand.{IsNumbered, clients, transfers}
 use Rattle.sm_model.specs.Opened.{opened}
 use Rattle.sm_model.specs.Sound.{SoundUp}
-use Rattle.laws_transfer.proofs.Lists.{among_right}
 use Rattle.laws_cases.specs.Needs.{KeepsNeeded}
 use Rattle.laws_cases.proofs.Steps.Parties.{lacked}
 use Rattle.laws_cases.proofs.Needed.NeededHere.{leg_at_source}

@@ -12,6 +12,9 @@ use Rattle.sm_defs.specs.Volume.{Volume, Snapshot, ident_of, image_of, images_of
 use Rattle.sm_defs.specs.Relationship.{is_mirror, is_resync}
 use Rattle.sm_defs.specs.Missing.{vault_landing}
 use Rattle.sm_defs.specs.World.{Up}
+use Rattle.sm_defs.proofs.Members.{among_append, among_map, from_map}
+use Rattle.sm_defs.proofs.Thinned.{thinned_among, thinned_differ, thinned_map}
+use Rattle.sm_defs.proofs.Keys.{differ_push}
 use Rattle.sm_model.specs.Standing.{Stored}
 use Rattle.sm_model.specs.TagsFit.{TagsFitIn}
 use Rattle.sm_model.specs.LegsFit.{FitsSource}
@@ -20,9 +23,7 @@ use Rattle.sm_model.specs.Sound.{SoundUp}
 use Rattle.sm_model.specs.Running.{Running, IsRunning}
 use Rattle.sm_model.specs.Steps.{landing, arrived, published, list_published, reverted, bases, snapshot_of, image_or_none}
 use Rattle.sm_model.specs.Due.{is_unpruned, is_reverting}
-use Rattle.laws_transfer.proofs.Lists.{among_append, among_map, from_map}
-use Rattle.laws_cases.proofs.Lists.Thinned.{thinned_among, thinned_map, thinned_differ}
-use Rattle.laws_copies.proofs.Tags.{ImagesFrom, fits_fewer, differ_push}
+use Rattle.laws_copies.proofs.Tags.{ImagesFrom, fits_fewer}
 use Rattle.laws_cases.proofs.Steps.Parties.{relation_stands, source_stands, destination_stands, snapshot_is, lacked}
 use Rattle.laws_cases.proofs.Steps.DueCases.{Ahead}
 use Rattle.laws_cases.proofs.Steps.Landing.{reverted_thins, published_thins, in_snapshot, base_member}

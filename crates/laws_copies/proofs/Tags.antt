@@ -1,9 +1,9 @@
 -- Tags still fit in a volume that was changed.
-use Rattle.std.proofs.Common.{◌≡◌, ◌≢◌, ◌⊎◌, ◌≤◌, ℕ, zero, suc, ◌==◌, ◌||◌, Bool, true, false, cond, not, List, [], ◌∷◌, ◌++◌, map, Some, refl, ap, sym, subst, ◌∙◌, inl, inr, eq-eqb, arith, zero-le}
-use Rattle.std.proofs.lemmas.Bool.{or_left, or_right, or_cases, both_ways, not-true}
+use Rattle.std.proofs.Common.{◌≡◌, ◌≢◌, ◌⊎◌, ◌≤◌, ℕ, zero, suc, ◌==◌, Bool, true, false, cond, not, List, [], ◌∷◌, ◌++◌, map, Some, refl, ap, sym, subst, ◌∙◌, inl, inr, eq-eqb, arith, zero-le}
+use Rattle.std.proofs.lemmas.Bool.{or_left, or_right, both_ways, not-true}
 use Rattle.std.proofs.lemmas.Option.{same_Some}
 use Rattle.std.specs.Prelude.{slice_get}
-use Rattle.std.specs.List.{filter, list_any, flat_map, AllByRecursion}
+use Rattle.std.specs.List.{filter}
 use Rattle.sm_defs.specs.Words.{Among, KeysDiffer}
 use Rattle.sm_defs.specs.Image.{Block, Image, tags, tag_of, stands, full_block}
 use Rattle.sm_defs.specs.Volume.{Volume, Snapshot, ident_of, image_of, images_of, tags_of, free_tags, numbers}
@@ -11,12 +11,12 @@ use Rattle.sm_model.specs.Standing.{Stored}
 use Rattle.sm_model.specs.TagsFit.{TagsFitIn}
 use Rattle.sm_defs.specs.Operations.{first_of, with_snapshot}
 use Rattle.sm_model.specs.OfVolumes.{written}
-use Rattle.laws_transfer.proofs.Lists.{among_append, from_map, among_map}
 use Rattle.sm_defs.specs.Thinned.{Thinned}
-use Rattle.laws_transfer.proofs.Landed.{below_numbers}
-use Rattle.laws_cases.proofs.Lists.Thinned.{thinned_among, thinned_map, thinned_differ}
-use Rattle.laws_cases.proofs.Lists.Frames.{get_set}
 use Rattle.sm_defs.specs.Operations as operations
+use Rattle.sm_defs.proofs.Members.{among_append, among_map, any_flat, from_map, get_set}
+use Rattle.sm_defs.proofs.Numbers.{below_numbers}
+use Rattle.sm_defs.proofs.Thinned.{thinned_among, thinned_differ, thinned_map}
+use Rattle.sm_defs.proofs.Keys.{differ_push}
 
 -- each image of u is one of v
 abbrev pub ImagesFrom : Volume → Volume → Type 0
@@ -64,14 +64,6 @@ set_back_from v image m other (inr (inr k)) = inr (inr k)
 pub set_back_fits : (v : Volume) (image : Image) → Among (images_of v) image → TagsFitIn v → TagsFitIn (record v { active = image; stable = image })
 set_back_fits v image m f = fits_fewer v (record v { active = image; stable = image }) (set_back_from v image m) refl f.idents_differ f
 
-pub each_pushed : {X : Type 0} (P : X → Type 0) (xs : List X) (x : X) → AllByRecursion P xs → P x → AllByRecursion P (xs ++ x ∷ [])
-each_pushed P [] x h k = (k, tt)
-each_pushed P (y ∷ ys) x h k = (h.0, each_pushed P ys x h.1 k)
-
-pub differ_push : {X K : Type 0} (key : X → K) (xs : List X) (x : X) → KeysDiffer key xs → ((y : X) → Among xs y → ¬ (key y ≡ key x)) → KeysDiffer key (xs ++ x ∷ [])
-differ_push key [] x h k = (tt, tt)
-differ_push key (y ∷ ys) x h k = (each_pushed (λ z. ¬ (key z ≡ key y)) ys x h.0 (λ e. k y (inl refl) (sym e)), differ_push key ys x h.1 (λ z m. k z (inr m)))
-
 -- a snapshot of the active image brings no other image
 pub snapped_from : (v : Volume) (s : Snapshot) → s.image ≡ v.active → ImagesFrom v (with_snapshot v s)
 snapped_from v s e = go
@@ -95,23 +87,6 @@ pub stands_tag : (image : Image) (p : ℕ) (b : Block) → slice_get image p ≡
 stands_tag [] p b e = absurd (cc)
 stands_tag (c ∷ cs) zero b e = or_left _ _ (eq-eqb c.tag b.tag (ap tag_of (same_Some c b e)))
 stands_tag (c ∷ cs) (suc p) b e = or_right _ _ (stands_tag cs p b e)
-
-pub any_left : {X : Type 0} (p : X → Bool) (xs ys : List X) → list_any p xs ≡ true → list_any p (xs ++ ys) ≡ true
-any_left p [] ys e = absurd (cc)
-any_left p (x ∷ xs) ys e = go (or_cases (p x) (list_any p xs) e) (any_left p xs ys)
-  where
-    go : (p x ≡ true) ⊎ (list_any p xs ≡ true) → (list_any p xs ≡ true → list_any p (xs ++ ys) ≡ true) → (p x || list_any p (xs ++ ys)) ≡ true
-    go (inl k) ih = or_left _ _ k
-    go (inr k) ih = or_right _ _ (ih k)
-
-pub any_right : {X : Type 0} (p : X → Bool) (xs ys : List X) → list_any p ys ≡ true → list_any p (xs ++ ys) ≡ true
-any_right p [] ys e = e
-any_right p (x ∷ xs) ys e = or_right _ _ (any_right p xs ys e)
-
-any_flat : {X Y : Type 0} (p : Y → Bool) (f : X → List Y) (xs : List X) (x : X) → Among xs x → list_any p (f x) ≡ true → list_any p (flat_map f xs) ≡ true
-any_flat p f [] x m e = absurd m
-any_flat p f (z ∷ xs) x (inl k) e = any_left p (f z) (flat_map f xs) (subst (λ y. list_any p (f y) ≡ true) k e)
-any_flat p f (z ∷ xs) x (inr m) e = any_right p (f z) (flat_map f xs) (any_flat p f xs x m e)
 
 pub stored_stands : (v : Volume) (p : ℕ) (b : Block) → Stored v p b → stands b.tag (tags_of v) ≡ true
 stored_stands v p b (image, m, e) = any_flat (λ u. u == b.tag) tags (images_of v) image m (stands_tag image p b e)

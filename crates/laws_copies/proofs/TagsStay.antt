@@ -21,10 +21,8 @@ use Rattle.sm_model.specs.Running.{Running, IsRunning}
 use Rattle.sm_model.specs.Steps.{Effect, prepared_snapshot}
 use Rattle.sm_model.specs.Due.{StepKind, reserved_leg, IsEffect, IsStep, by_transfer, by_tidy, goes}
 use Rattle.sm_model.specs.LegalRun.{IsStepDeed, IsDeed}
-use Rattle.laws_transfer.proofs.Kept.{filter_thins}
 use Rattle.laws_cases.proofs.Answers.Walk.{going}
-use Rattle.laws_cases.proofs.Lists.Members.{among_get_or}
-use Rattle.laws_cases.proofs.Lists.Frames.{each_set, each_push, each_mapped}
+use Rattle.laws_cases.proofs.Lists.Frames.{each_set}
 use Rattle.laws_copies.proofs.Tags.{written_fits, pointed_fits, thinned_fits, snapped_fits, reopened_fits}
 use Rattle.laws_copies.proofs.Fresh.{client_fresh}
 use Rattle.laws_cases.proofs.Steps.Parties.{source_stands, destination_stands}
@@ -37,6 +35,8 @@ use Rattle.laws_cases.proofs.Answers.Changes as answers
 use Rattle.laws_cases.proofs.Answers.Changes.{IsChange, IsAnswer, WritableAt}
 use Rattle.laws_cases.proofs.Answers.Deeds.{IsAnswered, deed_cases}
 use Rattle.sm_defs.specs.Operations as operations
+use Rattle.sm_defs.proofs.Thinned.{filter_thins}
+use Rattle.sm_defs.proofs.Members.{among_get_or, each_mapped, each_push}
 
 -- ---- a new volume
 

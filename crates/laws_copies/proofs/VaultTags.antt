@@ -8,13 +8,11 @@ use Rattle.sm_defs.specs.Words.{Among, KeysDiffer}
 use Rattle.sm_defs.specs.Image.{Block, Image, hole, stands}
 use Rattle.sm_defs.specs.Volume.{Volume, free_tags, numbers, tags_of}
 use Rattle.sm_defs.specs.Missing.{is_missing_at, first_tag, rest, moved, first_number, first_block, landed_from, Bases, vault_landing}
+use Rattle.sm_defs.proofs.Members.{among_each, among_filter}
+use Rattle.sm_defs.proofs.Numbers.{below_numbers}
+use Rattle.sm_defs.proofs.Thinned.{filter_thins, thinned_among, thinned_differ}
 use Rattle.sm_model.specs.Standing.{Stored}
 use Rattle.sm_model.specs.TagsFit.{TagsFitIn}
-use Rattle.laws_transfer.proofs.Lists.{among_filter}
-use Rattle.laws_transfer.proofs.Landed.{below_numbers}
-use Rattle.laws_transfer.proofs.Asc.{among_each}
-use Rattle.laws_transfer.proofs.Kept.{filter_thins}
-use Rattle.laws_cases.proofs.Lists.Thinned.{thinned_among, thinned_differ}
 use Rattle.laws_copies.proofs.Tags.{stored_stands}
 use Rattle.laws_copies.proofs.Merged.{FitsTo, hole_tag}
 

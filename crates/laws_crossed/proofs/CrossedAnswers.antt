@@ -19,17 +19,13 @@ use Rattle.sm_model.specs.OfRelations.{has_a_half, without_destination, without_
 use Rattle.sm_model.specs.OfTransfers.{with_transfer, without_transfer, halted, resumed, new_transfer, next_legs, as_reverted, with_next_transfer}
 use Rattle.sm_model.specs.Crossed.{IsReservedLeg, CrossedRelation, CrossedTransfer, transfer_number, Crossed}
 use Rattle.sm_model.specs.Sound.{SoundUp}
-use Rattle.laws_transfer.proofs.Lists.{among_append, among_filter}
-use Rattle.laws_transfer.proofs.Kept.{filter_thins}
 use Rattle.laws_cases.specs.Needs.{KeepsNeeded}
-use Rattle.laws_cases.proofs.Lists.Members.{among_set}
 use Rattle.laws_cases.proofs.Needed.Needs.{push_within}
 use Rattle.laws_cases.proofs.Answers.Changes.{RelationAt}
-use Rattle.laws_cases.proofs.Lists.Thinned.{thinned_differ}
 use Rattle.laws_cases.proofs.Lists.Frames as frames
 use Rattle.laws_cases.proofs.Moves.Moves.{Aside, Turn, Start, Halve, Relates, IsMove, nothing, clock, new_policy, rule, creates, writes, drops, points, breaks, snaps, quiesces, resumes, ends, ends_settled, halts, halts_settled, starts, resyncs, deletes, releases, aside, relates, turns, begins, halves}
 use Rattle.laws_crossed.proofs.CrossedParts.{Differ, dest_key, to_apart, keys_thin, keys_fewer, keys_same, keys_new, crossed_volumes, crossed_set, counted, crossed_list, relation_counted, transfer_counted, SameEnds, relation_with, transfer_with}
-use Rattle.laws_crossed.proofs.CrossedKeys.{keys_push_none, keys_push_new, key_from, dest_is, found_none}
+use Rattle.laws_crossed.proofs.CrossedKeys.{keys_push_none, keys_push_new, key_from, dest_is}
 use Rattle.laws_crossed.proofs.CrossedSteps.{apart_set, relation_set}
 use Rattle.laws_crossed.proofs.CrossedLegs.{legs_differ, legs_at_source, common_on_both}
 use Rattle.laws_cases.proofs.Answers.Plainly.{not_both}
@@ -37,6 +33,9 @@ use Rattle.laws_cases.proofs.Moves.PoliciesStay.{aside_policies}
 use Rattle.laws_cases.proofs.Steps.LegsThere.{leg_on_both}
 use Rattle.sm_defs.specs.Rules.{with_rule}
 use Rattle.sm_defs.specs.Progress.{settled}
+use Rattle.sm_defs.proofs.Members.{among_append, among_filter, among_set}
+use Rattle.sm_defs.proofs.Thinned.{filter_thins, thinned_differ}
+use Rattle.sm_defs.proofs.Searches.{found_none}
 
 -- ---- volumes, policies and the clock
 

@@ -4,7 +4,7 @@ use Rattle.std.specs.List.{filter_map, cons_option}
 use Rattle.std.proofs.lemmas.Option.{same_Some}
 use Rattle.sm_defs.specs.Words.{Among, Found, found, next_place}
 use Rattle.sm_defs.specs.Relationship.{Relationship}
-use Rattle.laws_copies.proofs.Tags.{differ_push}
+use Rattle.sm_defs.proofs.Keys.{differ_push}
 use Rattle.laws_crossed.proofs.CrossedParts.{Differ, dest_key}
 
 -- one without a key came
@@ -44,14 +44,3 @@ dest_is r n = go r.destination_half
     go : (b : Bool) → ◌≡◌ {A = Option ℕ} (cond b (Some r.destination) None) (Some n) → (b ≡ true) × (r.destination ≡ n)
     go true e = (refl, same_Some r.destination n e)
     go false e = absurd (cc)
-
-none_go : {X : Type 0} (p : X → Bool) (y x : X) (xs : List X) (b : Bool) (o : Option (Found X)) → p y ≡ b → cond b (Some (record { at = 0; item = y })) (next_place o) ≡ None → (o ≡ None → Among xs x → p x ≡ false) → (x ≡ y) ⊎ Among xs x → p x ≡ false
-none_go p y x xs true o e f h m = absurd (cc)
-none_go p y x xs false (Some g) e f h m = absurd (cc)
-none_go p y x xs false None e f h (inl i) = ap p i ∙ e
-none_go p y x xs false None e f h (inr m) = h refl m
-
--- where none was found none passes
-pub found_none : {X : Type 0} (p : X → Bool) (xs : List X) (x : X) → found p xs ≡ None → Among xs x → p x ≡ false
-found_none p [] x e m = absurd m
-found_none p (y ∷ xs) x e m = none_go p y x xs (p y) (found p xs) refl e (found_none p xs x) m

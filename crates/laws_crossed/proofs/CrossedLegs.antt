@@ -13,16 +13,16 @@ use Rattle.sm_defs.specs.Relationship.{Relationship, is_mirror, sends_all}
 use Rattle.sm_defs.specs.Legs.{made_ident, mirror_legs, vault_legs, candidates, after_base, only_newest}
 use Rattle.sm_defs.specs.Thinned.{Thinned, end, kept, left_out}
 use Rattle.sm_defs.specs.World.{Up, volume_at, policy_at}
+use Rattle.sm_defs.proofs.Members.{among_append, among_get_or, among_right, from_map}
+use Rattle.sm_defs.proofs.Thinned.{all_kept, filter_thins, thinned_among, thinned_differ, after_thins}
+use Rattle.sm_defs.proofs.Keys.{differ_push}
 use Rattle.sm_model.specs.OfTransfers.{next_legs, new_transfer, source_of}
 use Rattle.sm_model.specs.Crossed.{IsReservedLeg}
 use Rattle.sm_model.specs.Sound.{SoundUp}
-use Rattle.laws_transfer.proofs.Lists.{from_map, among_append, among_right, has_from_copy}
+use Rattle.laws_transfer.proofs.Lists.{has_from_copy}
 use Rattle.laws_transfer.specs.Sending.{IsNewIdent}
-use Rattle.laws_transfer.proofs.Kept.{common_newest, filter_thins}
+use Rattle.laws_transfer.proofs.Kept.{common_newest}
 use Rattle.laws_transfer.proofs.Sent.{legs_new}
-use Rattle.laws_cases.proofs.Lists.Members.{among_get_or}
-use Rattle.laws_copies.proofs.Tags.{differ_push}
-use Rattle.laws_cases.proofs.Lists.Thinned.{all_kept, thinned_among, thinned_differ, after_thins}
 use Rattle.laws_cases.proofs.Needed.Leaving.{from_base}
 use Rattle.laws_copies.proofs.Numbered.{made_lacked}
 

@@ -11,11 +11,11 @@ use Rattle.sm_defs.specs.Thinned.{Thinned, end, kept, left_out}
 use Rattle.sm_defs.specs.Volume.{Volume, has, no_volume}
 use Rattle.sm_defs.specs.Relationship.{Relationship, Transfer, is_mirror}
 use Rattle.sm_defs.specs.World.{Up, volume_at, policy_at, with_volume}
+use Rattle.sm_defs.proofs.Members.{among_each, each_among}
+use Rattle.sm_defs.proofs.Thinned.{all_kept}
 use Rattle.sm_model.specs.Crossed.{IsReservedLeg, CrossedRelation, CrossedTransfer, destination_of, with_destination_half, transfer_number, Crossed}
-use Rattle.laws_transfer.proofs.Asc.{among_each, each_among}
 use Rattle.laws_transfer.proofs.Kept.{base_at_source, base_at_destination}
 use Rattle.laws_cases.specs.Needs.{KeepsNeeded}
-use Rattle.laws_cases.proofs.Lists.Thinned.{all_kept}
 use Rattle.laws_cases.proofs.Needed.Needs.{set_cases}
 use Rattle.laws_cases.proofs.Needed.NeededHere.{leg_at_source}
 use Rattle.laws_cases.proofs.Lists.TransferNumbers.{cons_among, tail_differ}

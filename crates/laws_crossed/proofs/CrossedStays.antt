@@ -11,7 +11,6 @@ use Rattle.sm_model.specs.LegalRun.{IsDeed, IsStepDeed}
 use Rattle.sm_model.specs.Opened.{opened, rejoined, restarted}
 use Rattle.sm_model.specs.Crossed.{CrossedRelation, CrossedTransfer, transfer_number, Crossed}
 use Rattle.sm_model.specs.Sound.{SoundUp}
-use Rattle.laws_transfer.proofs.Lists.{from_map}
 use Rattle.laws_cases.proofs.Needed.Needs.{mapped_length}
 use Rattle.laws_cases.proofs.Needed.NeedsStay.{deeds_keep, restarts_keep}
 use Rattle.laws_cases.proofs.Moves.Moves.{IsMove}
@@ -21,6 +20,7 @@ use Rattle.laws_crossed.proofs.CrossedKeys.{keys_mapped}
 use Rattle.laws_crossed.proofs.CrossedSteps.{steps_keep_crossed}
 use Rattle.laws_crossed.proofs.CrossedAnswers.{of_move}
 use Rattle.sm_defs.specs.Operations as operations
+use Rattle.sm_defs.proofs.Members.{from_map}
 use Rattle.laws_cases.proofs.Answers.Opening.{Reopened, reopened_at}
 
 pub deeds_keep_crossed : (e : Event) (d : Deed) → SoundUp d.old → IsDeed e d → Crossed d.new

@@ -12,6 +12,8 @@ use Rattle.sm_defs.specs.Relationship.{Relationship, Transfer}
 use Rattle.sm_defs.specs.World.{Up, volume_at, relation_at, with_relation, no_relation}
 use Rattle.sm_model.specs.OfTransfers.{with_transfer, without_transfer}
 use Rattle.sm_defs.specs.Operations.{with_snapshot}
+use Rattle.sm_defs.proofs.Members.{among_set}
+use Rattle.sm_defs.proofs.Thinned.{thinned_differ}
 use Rattle.sm_model.specs.Running.{Running, IsRunning}
 use Rattle.sm_model.specs.Steps.{Effect, with_destination, interrupted, reverted, prepared_snapshot, published}
 use Rattle.sm_model.specs.Due.{StepKind, IsEffect, IsStep, by_transfer, by_tidy, reserved_leg, settled_relation, goes, is_tidied}
@@ -19,10 +21,8 @@ use Rattle.sm_model.specs.Crossed.{CrossedRelation, CrossedTransfer, transfer_nu
 use Rattle.sm_model.specs.Sound.{SoundUp}
 use Rattle.laws_cases.specs.Needs.{KeepsNeeded}
 use Rattle.laws_cases.proofs.Answers.Walk.{going}
-use Rattle.laws_cases.proofs.Lists.Members.{among_set}
 use Rattle.laws_cases.proofs.Needed.Needs.{set_cases}
 use Rattle.laws_cases.proofs.Needed.NeedsStay.{steps_keep}
-use Rattle.laws_cases.proofs.Lists.Thinned.{thinned_differ}
 use Rattle.laws_cases.proofs.Steps.Parties.{relation_stands}
 use Rattle.laws_cases.proofs.Steps.DueCases.{IsDue, due_revert, due_finish, due_settle, due_prepare, due_prune, due_publish, due_checkpoint, due_ship, kind_is_due}
 use Rattle.laws_crossed.proofs.CrossedParts.{dest_key, Apart, to_apart, keys_fewer, keys_same, volume_keeps, crossed_volumes, crossed_set, crossed_list, SameEnds, relation_with, transfer_with}

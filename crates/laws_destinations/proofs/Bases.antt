@@ -11,6 +11,7 @@ use Rattle.sm_defs.specs.Volume.{Volume, Snapshot, ident_of, has, no_volume, new
 use Rattle.sm_defs.specs.Relationship.{Relationship, Transfer, legs_of}
 use Rattle.sm_defs.specs.Legs.{made_ident}
 use Rattle.sm_defs.specs.World.{Up, volume_at, policy_at, with_volume, with_relation}
+use Rattle.sm_defs.proofs.Members.{among_append, among_filter, among_get_or, among_set}
 use Rattle.sm_model.specs.OfRelations as relations
 use Rattle.sm_model.specs.OfRelations.{has_a_half}
 use Rattle.sm_model.specs.OfTransfers as transfers
@@ -20,9 +21,8 @@ use Rattle.sm_model.specs.TransfersStand as transfers_stand
 use Rattle.sm_model.specs.TransfersStand.{IsFirst, TransferStands}
 use Rattle.sm_model.specs.Sound.{SoundUp}
 use Rattle.laws_transfer.specs.Sending.{IsNewIdent}
-use Rattle.laws_transfer.proofs.Lists.{among_append, among_filter, copy_from_has}
+use Rattle.laws_transfer.proofs.Lists.{copy_from_has}
 use Rattle.laws_transfer.proofs.Sent.{legs_new}
-use Rattle.laws_cases.proofs.Lists.Members.{among_set, among_get_or}
 use Rattle.laws_cases.proofs.Needed.Needs.{set_cases, push_within}
 use Rattle.laws_cases.proofs.Answers.Plainly.{not_both}
 use Rattle.laws_copies.proofs.Numbered.{made_lacked}

@@ -16,6 +16,8 @@ use Rattle.sm_defs.specs.Relationship.{Relationship, Transfer, is_mirror, is_res
 use Rattle.sm_defs.specs.Needed.{needed}
 use Rattle.sm_defs.specs.Retention.{retained}
 use Rattle.sm_defs.specs.World.{Up, volume_at, with_volume, with_relation}
+use Rattle.sm_defs.proofs.Members.{among_get_or, among_right, each_mapped, each_push, filter_among, from_map}
+use Rattle.sm_defs.proofs.Thinned.{filter_thins, thinned_among}
 use Rattle.sm_model.specs.World.{Deed}
 use Rattle.sm_model.specs.Answers.{Reached}
 use Rattle.sm_model.specs.Answer.{answer}
@@ -30,15 +32,13 @@ use Rattle.sm_model.specs.Crossed.{destination_of, with_destination_half}
 use Rattle.sm_model.specs.DestinationsStand.{StandsAtSnapshot, newest_published, StandsAtBase, DestinationsStand}
 use Rattle.sm_model.specs.TransfersStand.{later, IsFirst, TransferStands}
 use Rattle.sm_model.specs.Sound.{SoundUp}
-use Rattle.laws_transfer.proofs.Lists.{among_right, from_map, filter_among, copy_from_has, has_from_copy}
-use Rattle.laws_transfer.proofs.Kept.{base_at_destination, filter_thins}
+use Rattle.laws_transfer.proofs.Lists.{copy_from_has, has_from_copy}
+use Rattle.laws_transfer.proofs.Kept.{base_at_destination}
 use Rattle.laws_cases.proofs.Answers.Walk.{going}
-use Rattle.laws_cases.proofs.Lists.Members.{among_get_or}
 use Rattle.laws_cases.proofs.Needed.Needs.{mapped_at}
-use Rattle.laws_cases.proofs.Lists.Thinned.{thinned_among}
 use Rattle.laws_cases.proofs.Answers.Plainly.{rw_from, not_both}
 use Rattle.laws_cases.proofs.Needed.Leaving.{same_member}
-use Rattle.laws_cases.proofs.Lists.Frames.{each_set, each_push, each_mapped}
+use Rattle.laws_cases.proofs.Lists.Frames.{each_set}
 use Rattle.laws_copies.proofs.Tags.{stored_from, reopened_from, thinned_from}
 use Rattle.laws_copies.proofs.TagsStay.{new_stored}
 use Rattle.laws_cases.proofs.Steps.Parties.{relation_stands, destination_stands, snapshot_is, lacked, base_is}

@@ -19,6 +19,9 @@ use Rattle.sm_model.specs.World.{Deed}
 use Rattle.sm_model.specs.Answers.{goes_to}
 use Rattle.sm_model.specs.OfVolumes as volumes
 use Rattle.sm_defs.specs.Operations as operations
+use Rattle.sm_defs.proofs.Members.{among_each, among_get_or, among_right, from_map, set_at}
+use Rattle.sm_defs.proofs.Thinned.{filter_thins, thinned_among}
+use Rattle.sm_defs.proofs.Idents.{is_same, same_is}
 use Rattle.sm_model.specs.OfRelations as relations
 use Rattle.sm_model.specs.OfTransfers as transfers
 use Rattle.sm_model.specs.Running.{Running, IsRunning}
@@ -31,13 +34,10 @@ use Rattle.sm_model.specs.TransfersStand.{later, IsFirst, TransferStands, Transf
 use Rattle.sm_model.specs.Sound.{SoundUp}
 use Rattle.laws_transfer.specs.Dropping.{IsNewestCommon}
 use Rattle.laws_transfer.specs.Sending.{IsNewIdent}
-use Rattle.laws_transfer.proofs.Asc.{among_each}
-use Rattle.laws_transfer.proofs.Kept.{common_newest, filter_thins}
-use Rattle.laws_transfer.proofs.Lists.{among_right, from_map, copy_from_has, has_from_copy, same_is, is_same}
+use Rattle.laws_transfer.proofs.Kept.{common_newest}
+use Rattle.laws_transfer.proofs.Lists.{copy_from_has, has_from_copy}
 use Rattle.laws_cases.proofs.Answers.Walk.{going}
-use Rattle.laws_cases.proofs.Lists.Members.{among_get_or, set_at}
 use Rattle.laws_cases.proofs.Needed.Needs.{set_cases, push_within, mapped_at, split_at}
-use Rattle.laws_cases.proofs.Lists.Thinned.{thinned_among}
 use Rattle.laws_cases.proofs.Answers.Plainly.{relation_at_place, not_both, rw_if}
 use Rattle.laws_cases.proofs.Answers.OfRelationEvents.{goes_there, goes_half}
 use Rattle.laws_copies.proofs.Fresh.{leg_not_clients}

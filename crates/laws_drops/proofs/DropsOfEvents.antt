@@ -13,13 +13,15 @@ use Rattle.sm_model.specs.declared.event.Event.TheVariants as events
 use Rattle.sm_defs.specs.Words.{Among, Found, same_ident, last_that, or_earlier}
 use Rattle.sm_defs.specs.Volume.{Volume, Snapshot, no_volume, has}
 use Rattle.sm_defs.specs.World.{Up, volume_at, with_volume}
+use Rattle.sm_defs.proofs.Idents.{is_same, same_is}
+use Rattle.sm_defs.proofs.Members.{among_filter, among_left}
 use Rattle.sm_model.specs.World.{Deed}
 use Rattle.sm_model.specs.Answers.{Told, volume_named, some_or}
 use Rattle.sm_model.specs.OfVolumes.{unsnap, snapshot_named, without_snapshot}
 use Rattle.sm_model.specs.Answer.{answer}
 use Rattle.sm_model.specs.Drops.{Drops, NamedByUnsnap}
 use Rattle.sm_model.specs.LegalRun.{IsDone}
-use Rattle.laws_transfer.proofs.Lists.{same_is, is_same, among_left, among_filter, copy_from_has, has_from_copy}
+use Rattle.laws_transfer.proofs.Lists.{copy_from_has, has_from_copy}
 use Rattle.laws_cases.proofs.Answers.Walk.{OfOk, past, with_ok, with_held, now}
 use Rattle.laws_cases.proofs.Answers.Changes as answers
 use Rattle.laws_cases.proofs.Answers.Changes.{IsChange, IsAnswer}

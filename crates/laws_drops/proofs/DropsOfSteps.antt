@@ -17,12 +17,11 @@ use Rattle.sm_model.specs.Drops.{NamedAt, NamedByRevert, NamedByPrune, NamedByRe
 use Rattle.sm_model.specs.Running.{Running, running_in, IsRunning}
 use Rattle.sm_base.specs.declared.refusal.Reason.{Reason}
 use Rattle.sm_defs.specs.Operations.{with_snapshot}
+use Rattle.sm_defs.proofs.Members.{among_append, among_each, among_get_or, among_left}
 use Rattle.sm_model.specs.Steps.{Effect, interrupts, number_of, with_destination, with_progress, reverted, arrived, published, list_published, snapshot_of, prepared_snapshot, cost}
 use Rattle.sm_model.specs.Due.{StepKind, reserved_leg, IsEffect, IsStep, by_transfer, by_tidy, is_tidied, goes, finish_effect, settle_effect, checkpoint_effect, tidy_effect, insert_landed}
-use Rattle.laws_transfer.proofs.Lists.{copy_from_has, has_from_copy, among_append, among_left}
-use Rattle.laws_transfer.proofs.Asc.{among_each}
+use Rattle.laws_transfer.proofs.Lists.{copy_from_has, has_from_copy}
 use Rattle.laws_cases.proofs.Answers.Walk.{going}
-use Rattle.laws_cases.proofs.Lists.Members.{among_get_or}
 use Rattle.laws_cases.proofs.Steps.Parties.{relation_stands, destination_stands, snapshot_is, base_is, at_x}
 use Rattle.laws_cases.proofs.Steps.DueCases.{Ahead, IsDue, due_revert, due_finish, due_settle, due_prepare, due_prune, due_publish, due_checkpoint, due_ship, kind_is_due, tidy_within}
 use Rattle.laws_cases.proofs.Needed.Leaving.{Lost, KeepsAll, none_lost, lost_there, lost_here, without_lost, goes_lost, after_lost, lost_after}

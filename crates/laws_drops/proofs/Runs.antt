@@ -6,12 +6,12 @@ use Rattle.sm_model.specs.declared.event.Event.TheVariants as events
 use Rattle.sm_model.specs.declared.reply.Entry.{Entry}
 use Rattle.sm_defs.specs.Words.{Among}
 use Rattle.sm_defs.specs.World.{Up}
+use Rattle.sm_defs.proofs.Members.{among_append}
 use Rattle.sm_model.specs.World.{World, up, down, Deed}
 use Rattle.sm_model.specs.Drops.{Drops, NamedFor}
 use Rattle.sm_model.specs.LegalRun as runs
 use Rattle.sm_model.specs.LegalRun.{IsDeed, Fits, Run, restart_deed}
 use Rattle.sm_model.specs.Sound.{SoundUp}
-use Rattle.laws_transfer.proofs.Lists.{among_append}
 use Rattle.laws_cases.specs.Needs.{KeepsNeeded}
 use Rattle.laws_drops.specs.Runs.{WasDone, WasGoing}
 use Rattle.laws_cases.proofs.Needed.NeedsStay.{deeds_keep}

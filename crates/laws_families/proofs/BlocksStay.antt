@@ -21,16 +21,12 @@ use Rattle.sm_model.specs.Standing.{Stands, EachVolume}
 use Rattle.sm_model.specs.FamiliesAgree.{FamiliesAgree}
 use Rattle.sm_model.specs.FamiliesStand.{IsFamily}
 use Rattle.sm_model.specs.Sound.{SoundUp}
-use Rattle.laws_transfer.proofs.Lists.{among_append, from_map}
-use Rattle.laws_transfer.proofs.Kept.{filter_thins}
 use Rattle.laws_cases.proofs.Answers.Walk.{going}
-use Rattle.laws_cases.proofs.Lists.Members.{among_get_or}
 use Rattle.laws_cases.proofs.Answers.Changes as answers
 use Rattle.laws_cases.proofs.Answers.Changes.{Is, IsChange, IsAnswer}
 use Rattle.laws_cases.proofs.Answers.OfAnswer.{of_answer}
 use Rattle.laws_cases.proofs.Answers.Deeds.{IsAnswered, deed_cases, from_answer}
-use Rattle.laws_cases.proofs.Lists.Thinned.{all_kept, thinned_among}
-use Rattle.laws_cases.proofs.Lists.Frames.{each_set, each_push, each_mapped, stands_set, stands_push}
+use Rattle.laws_cases.proofs.Lists.Frames.{each_set, stands_set, stands_push}
 use Rattle.laws_copies.proofs.Fresh.{client_fresh}
 use Rattle.laws_cases.proofs.Steps.Parties.{relation_stands, source_stands, destination_stands}
 use Rattle.laws_cases.proofs.Steps.DueCases.{IsDue, due_revert, due_finish, due_settle, due_prepare, due_prune, due_publish, due_checkpoint, due_ship, kind_is_due, tidy_within}
@@ -38,6 +34,8 @@ use Rattle.laws_copies.proofs.Growing as growing
 use Rattle.laws_copies.proofs.Growing.{Grown}
 use Rattle.sm_defs.specs.Made.{family_of_transfer}
 use Rattle.sm_defs.specs.Operations as operations
+use Rattle.sm_defs.proofs.Members.{among_append, among_get_or, each_mapped, each_push, from_map}
+use Rattle.sm_defs.proofs.Thinned.{all_kept, filter_thins, thinned_among}
 
 -- ---- copies in one family
 

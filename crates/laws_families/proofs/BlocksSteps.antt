@@ -23,10 +23,7 @@ use Rattle.sm_model.specs.Due.{StepKind, IsEffect, IsStep, by_transfer, by_tidy,
 use Rattle.sm_model.specs.LegalRun.{IsDeed}
 use Rattle.sm_model.specs.FamiliesAgree.{FamiliesAgree}
 use Rattle.sm_model.specs.Sound.{SoundUp}
-use Rattle.laws_transfer.proofs.Kept.{filter_thins}
 use Rattle.laws_cases.proofs.Answers.Walk.{going}
-use Rattle.laws_cases.proofs.Lists.Members.{among_set, among_get_or}
-use Rattle.laws_cases.proofs.Lists.Thinned.{thinned_among}
 use Rattle.laws_cases.proofs.Answers.OfAnswer.{of_answer}
 use Rattle.laws_cases.proofs.Answers.Deeds.{of_done}
 use Rattle.laws_cases.proofs.Needed.Leaving.{same_member}
@@ -37,6 +34,8 @@ use Rattle.laws_copies.proofs.Brings.{reserved_fresh}
 use Rattle.laws_copies.proofs.StepTags.{published_among}
 use Rattle.laws_families.proofs.BlocksStay.{answered_agree, thinned_in_family, one_in_family, families_come, families_fresh}
 use Rattle.sm_defs.specs.Made.{family_of_transfer}
+use Rattle.sm_defs.proofs.Thinned.{filter_thins, thinned_among}
+use Rattle.sm_defs.proofs.Members.{among_get_or, among_set}
 
 -- ---- a volume that was changed
 

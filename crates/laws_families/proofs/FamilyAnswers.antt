@@ -13,12 +13,8 @@ use Rattle.sm_model.specs.OfTransfers.{with_transfer, without_transfer, halted, 
 use Rattle.sm_model.specs.Standing.{EachTransfer}
 use Rattle.sm_model.specs.FamiliesStand.{IsBaseOrFirst, IsVaultTo, FamilyStands}
 use Rattle.sm_model.specs.Sound.{SoundUp}
-use Rattle.laws_transfer.proofs.Lists.{among_append, among_filter}
-use Rattle.laws_transfer.proofs.Kept.{filter_thins}
 use Rattle.laws_cases.specs.Needs.{KeepsNeeded}
-use Rattle.laws_cases.proofs.Lists.Members.{among_set, among_get_or}
 use Rattle.laws_cases.proofs.Needed.Needs.{beyond, within_or_beyond}
-use Rattle.laws_cases.proofs.Lists.Thinned.{thinned_among}
 use Rattle.laws_cases.proofs.Moves.Moves.{Aside, Turn, Start, Halve, IsMove, nothing, clock, new_policy, rule, creates, writes, drops, points, breaks, snaps, quiesces, resumes, ends, ends_settled, halts, halts_settled, starts, resyncs, deletes, releases, aside, relates, turns, begins, halves}
 use Rattle.laws_cases.proofs.Lists.MoveFrames.{OfEach, OfOne, each_set, each_push, each_halved, none_of, one_of}
 use Rattle.laws_families.proofs.FamilyParts.{IsIdle, family_volume}
@@ -28,6 +24,8 @@ use Rattle.laws_cases.proofs.Moves.PoliciesStay.{aside_policies}
 use Rattle.laws_cases.proofs.Steps.LegsThere.{leg_on_both}
 use Rattle.laws_copies.proofs.Fresh.{leg_not_clients}
 use Rattle.sm_defs.specs.Progress.{settled}
+use Rattle.sm_defs.proofs.Members.{among_append, among_filter, among_get_or, among_set}
+use Rattle.sm_defs.proofs.Thinned.{filter_thins, thinned_among}
 use Rattle.laws_cases.proofs.Needed.Leaving.{lacks_fewer, lacks_more}
 
 abbrev pub AllStand : Up → Type 0

@@ -11,11 +11,10 @@ use Rattle.sm_model.specs.OfVolumes.{with_new_volume}
 use Rattle.sm_model.specs.Crossed.{CrossedRelation}
 use Rattle.sm_model.specs.FamiliesStand.{IsFamily, IsBaseOrFirst, IsVaultTo, FamilyStands}
 use Rattle.sm_model.specs.Sound.{SoundUp}
-use Rattle.laws_transfer.proofs.Lists.{among_append}
-use Rattle.laws_cases.proofs.Lists.Members.{among_get_or}
 use Rattle.laws_cases.proofs.Needed.Needs.{push_within, within_or_beyond}
 use Rattle.laws_families.proofs.FamilyParts.{IsIdle}
 use Rattle.sm_defs.specs.Made.{family_of_transfer}
+use Rattle.sm_defs.proofs.Members.{among_append, among_get_or}
 
 -- ---- policies keep their kinds
 

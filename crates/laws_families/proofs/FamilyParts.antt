@@ -12,10 +12,11 @@ use Rattle.sm_defs.specs.World.{Up, volume_at, policy_at, with_volume}
 use Rattle.sm_model.specs.FamiliesStand.{IsBaseOrFirst, IsVaultTo, InOwnFamily, FamilyStands}
 use Rattle.sm_model.specs.Sound.{SoundUp}
 use Rattle.laws_cases.specs.Needs.{KeepsNeeded}
-use Rattle.laws_cases.proofs.Lists.Members.{among_set, length_set}
 use Rattle.laws_cases.proofs.Needed.Needs.{set_cases}
 use Rattle.laws_cases.proofs.Needed.NeededHere.{base_at_source, leg_at_source}
 use Rattle.sm_defs.specs.Made.{family_of_transfer}
+use Rattle.sm_defs.proofs.Members.{among_set}
+use Rattle.std.proofs.lemmas.List.{length-set}
 
 -- it has no base and no transfer
 abbrev pub IsIdle : Relationship → Type 0
@@ -117,7 +118,7 @@ family_volume w i v u s a within keeps r t m e at_own took vault = (nobody, stan
         legs_alone j n l h k d g = go (set_cases w.volumes i n u no_volume)
           where
             go : (volume_at (with_volume w i u) n ≡ volume_at w n) ⊎ ((n ≡ i) × (volume_at (with_volume w i u) n ≡ u)) → has (volume_at (with_volume w i u) n).snapshots j ≡ false
-            go (inl q) = subst (λ y. has y.snapshots j ≡ false) (sym q) (o.legs_alone j n l (own_lacks j l h) (rw (sym (length_set w.volumes i u)) k) d (ap (λ y. y.family) (sym q) ∙ g))
+            go (inl q) = subst (λ y. has y.snapshots j ≡ false) (sym q) (o.legs_alone j n l (own_lacks j l h) (rw (sym (length-set w.volumes i u)) k) d (ap (λ y. y.family) (sym q) ∙ g))
             go (inr (p, q)) = subst (λ y. has y.snapshots j ≡ false) (sym q) ((took vault (not_own n d p) (ap (λ y. y.family) (sym q) ∙ g)).legs o j l (own_lacks j l h))
 
         others : (n : ℕ) → n < length (slice_set w.volumes i u) → n ≢ r.destination → (volume_at (with_volume w i u) n).family ≡ family_of_transfer t.number → (volume_at (with_volume w i u) n).kind ≡ Dp →
@@ -126,6 +127,6 @@ family_volume w i v u s a within keeps r t m e at_own took vault = (nobody, stan
           where
             go : (volume_at (with_volume w i u) n ≡ volume_at w n) ⊎ ((n ≡ i) × (volume_at (with_volume w i u) n ≡ u)) →
                 ((volume_at (with_volume w i u) n).snapshots ≢ []) × ((q : Relationship) → Among w.relations q → IsVaultTo (with_volume w i u) n q → IsIdle q)
-            go (inl q) = let x = o.others n (rw (sym (length_set w.volumes i u)) k) d (ap (λ y. y.family) (sym q) ∙ g) (ap (λ y. y.kind) (sym q) ∙ dp) in (subst (λ y. y.snapshots ≢ []) (sym q) x.0, x.1)
+            go (inl q) = let x = o.others n (rw (sym (length-set w.volumes i u)) k) d (ap (λ y. y.family) (sym q) ∙ g) (ap (λ y. y.kind) (sym q) ∙ dp) in (subst (λ y. y.snapshots ≢ []) (sym q) x.0, x.1)
             go (inr (p, q)) = let x = (took vault (not_own n d p) (ap (λ y. y.family) (sym q) ∙ g)).dp o (ap (λ y. y.kind) (sym q) ∙ dp) in
                 (subst (λ y. y.snapshots ≢ []) (sym q) x.0, λ z l h. x.1 z l (h.0, h.1 ∙ p, h.2))

@@ -16,7 +16,7 @@ use Rattle.sm_model.specs.Due.{has_other_family}
 use Rattle.sm_model.specs.TransfersStand.{later}
 use Rattle.sm_model.specs.FamiliesStand.{IsBaseOrFirst, InOwnFamily, FamilyStands}
 use Rattle.sm_model.specs.Sound.{SoundUp}
-use Rattle.laws_transfer.proofs.Lists.{has_from_copy, among_right}
+use Rattle.laws_transfer.proofs.Lists.{has_from_copy}
 use Rattle.laws_cases.specs.Needs.{KeepsNeeded}
 use Rattle.laws_cases.proofs.Steps.Parties.{source_stands, destination_stands, snapshot_is}
 use Rattle.laws_cases.proofs.Steps.DueCases.{Ahead}
@@ -26,6 +26,7 @@ use Rattle.laws_families.proofs.FamilyAnswers.{AllStand}
 use Rattle.laws_families.proofs.FamilyTakes.{family_taken, lacks_by, filled_has, based, other_number}
 use Rattle.laws_cases.proofs.Steps.RunningTransfers.{here, crossed, transfer, at_x, source_x, policy_x, not_vault, mirrors_none, own_here, same_family}
 use Rattle.sm_defs.specs.Made.{family_of_transfer}
+use Rattle.sm_defs.proofs.Members.{among_right}
 
 base_or_first : (q : Relationship) (is : List Ident) (i : Ident) → q.base ≡ Some i → IsBaseOrFirst q is i
 base_or_first q [] i e = e

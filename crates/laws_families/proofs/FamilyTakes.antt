@@ -14,13 +14,10 @@ use Rattle.sm_model.specs.FamiliesStand.{IsBaseOrFirst, FamilyStands}
 use Rattle.sm_model.specs.Crossed.{CrossedRelation}
 use Rattle.sm_model.specs.TransfersStand.{IsFirst}
 use Rattle.sm_model.specs.Sound.{SoundUp}
-use Rattle.laws_transfer.proofs.Lists.{copy_from_has, has_from_copy, among_left, among_append}
-use Rattle.laws_transfer.proofs.Kept.{filter_thins}
+use Rattle.laws_transfer.proofs.Lists.{copy_from_has, has_from_copy}
 use Rattle.laws_cases.specs.Needs.{KeepsNeeded}
-use Rattle.laws_cases.proofs.Lists.Members.{among_get_or, length_set, set_at}
 use Rattle.laws_cases.proofs.Needed.Needs.{set_cases}
 use Rattle.laws_cases.proofs.Needed.NeededHere.{base_at_destination}
-use Rattle.laws_cases.proofs.Lists.Thinned.{thinned_among}
 use Rattle.laws_cases.proofs.Steps.Parties.{destination_stands, snapshot_is, lacked}
 use Rattle.laws_cases.proofs.Steps.DueCases.{Ahead}
 use Rattle.laws_copies.proofs.Brings.{reserved_fresh}
@@ -32,6 +29,9 @@ use Rattle.laws_cases.proofs.Answers.Plainly.{not_both}
 use Rattle.laws_cases.proofs.Steps.LegsThere.{vault_leg}
 use Rattle.laws_cases.proofs.Steps.RunningTransfers.{here, crossed, transfer, at_x, source_x, not_vault, mirrors_none}
 use Rattle.sm_defs.specs.Made.{family_of_transfer}
+use Rattle.sm_defs.proofs.Members.{among_append, among_get_or, among_left, set_at}
+use Rattle.sm_defs.proofs.Thinned.{filter_thins, thinned_among}
+use Rattle.std.proofs.lemmas.List.{length-set}
 
 -- nobody had the family, and the source has the base or the first leg
 pub family_taken : (w : Up) (i : ℕ) (u : Volume) → SoundUp w → (r : Relationship) (t : Transfer) → Among w.relations r → r.transfer ≡ Some t → is_mirror (policy_at w r.policy).kind ≡ false → i ≡ r.destination → u.family ≡ family_of_transfer t.number →
@@ -41,8 +41,8 @@ family_taken w i u s r t m e vault d f none j b h _ = (
   λ _. record {
     source_elsewhere = λ g. elsewhere r.source c.source (λ z. c.apart z) g;
     source_has = (j, b, subst (λ y. has y.snapshots j ≡ true) (sym (still r.source (λ z. c.apart z))) h);
-    legs_alone = λ k n l _ q z g. absurd (elsewhere n (rw (sym (length_set w.volumes i u)) q) z g);
-    others = λ n q z g _. absurd (elsewhere n (rw (sym (length_set w.volumes i u)) q) z g);
+    legs_alone = λ k n l _ q z g. absurd (elsewhere n (rw (sym (length-set w.volumes i u)) q) z g);
+    others = λ n q z g _. absurd (elsewhere n (rw (sym (length-set w.volumes i u)) q) z g);
   },
 )
   where

@@ -21,13 +21,11 @@ use Rattle.sm_model.specs.Due.{StepKind, IsEffect, IsStep, by_transfer, by_tidy,
 use Rattle.sm_model.specs.Crossed.{CrossedRelation}
 use Rattle.sm_model.specs.FamiliesStand.{IsBaseOrFirst, FamilyStands, FamiliesStand}
 use Rattle.sm_model.specs.Sound.{SoundUp}
-use Rattle.laws_transfer.proofs.Lists.{from_map, has_from_copy}
-use Rattle.laws_transfer.proofs.Kept.{filter_thins}
+use Rattle.laws_transfer.proofs.Lists.{has_from_copy}
 use Rattle.laws_cases.specs.Needs.{KeepsNeeded}
 use Rattle.laws_cases.proofs.Answers.Walk.{going}
 use Rattle.laws_cases.proofs.Needed.Needs.{mapped_length}
 use Rattle.laws_cases.proofs.Needed.NeedsStay.{deeds_keep}
-use Rattle.laws_cases.proofs.Lists.Thinned.{thinned_among}
 use Rattle.laws_cases.proofs.Answers.Plainly.{rw_from, not_both, rw_if}
 use Rattle.laws_cases.proofs.Steps.DueCases.{IsDue, due_revert, due_finish, due_settle, due_prepare, due_prune, due_publish, due_checkpoint, due_ship, kind_is_due, no_reason, tidy_within}
 use Rattle.laws_families.proofs.BlocksStay.{deeds_keep_given, restarts_keep_given}
@@ -41,6 +39,8 @@ use Rattle.laws_families.proofs.FamilyTakes.{lacks_by, prepares, prunes, reverts
 use Rattle.laws_families.proofs.FamilyPublish.{reverts_vault, publishes_vault, publishes_mirror}
 use Rattle.laws_cases.proofs.Steps.RunningTransfers.{here, at_x}
 use Rattle.sm_defs.specs.Operations as operations
+use Rattle.sm_defs.proofs.Members.{from_map}
+use Rattle.sm_defs.proofs.Thinned.{filter_thins, thinned_among}
 use Rattle.laws_cases.proofs.Answers.Opening.{Reopened, reopened_at}
 
 -- ---- the transfer of a running relationship

@@ -27,9 +27,7 @@ use Rattle.sm_model.specs.OfRelations.{has_a_half}
 use Rattle.sm_model.specs.OfTransfers as transfers
 use Rattle.sm_model.specs.Formed.{FormedTransfer, Formed, path_of, disk_of, policy_name}
 use Rattle.sm_model.specs.Sound.{SoundUp}
-use Rattle.laws_transfer.proofs.Kept.{filter_thins}
 use Rattle.laws_cases.proofs.Answers.Walk.{OfOk, past, with_found, with_ok, with_held, with_target, whether_so, now, passing, passed}
-use Rattle.laws_cases.proofs.Lists.Members.{found_among, found_at, among_get_or}
 use Rattle.laws_cases.proofs.Answers.Changes.{VolumeAt, RelationAt}
 use Rattle.laws_cases.proofs.Answers.Plainly.{volume_at_place, relation_at_place}
 use Rattle.laws_cases.proofs.Answers.OfVolumeEvents.{named_at_place}
@@ -44,6 +42,9 @@ use Rattle.laws_form.proofs.FormedParts.{formed_policy, formed_with_rule, formed
 use Rattle.laws_form.proofs.FormedWorlds.{FormedProgress, formed_at, formed_push, policy_pushed, policy_at_place, at_later, relation_pushed, relation_set, halves_set, counted_on}
 use Rattle.sm_defs.specs.Rules as rules
 use Rattle.sm_defs.specs.Progress as progress
+use Rattle.sm_defs.proofs.Thinned.{filter_thins}
+use Rattle.sm_defs.proofs.Searches.{found_among, found_at}
+use Rattle.sm_defs.proofs.Members.{among_get_or}
 
 abbrev IsFormed : Reached → Type 0
 IsFormed r = Formed r.world

@@ -20,10 +20,9 @@ use Rattle.sm_defs.specs.Legs.{Legs, Source, after_base, candidates, only_newest
 use Rattle.sm_model.specs.Formed.{FormedRule, FormedPolicy, FormedTransfer, AreAdded}
 use Rattle.sm_defs.specs.Rules.{first_rules, new_policy, is_wrong_rule, is_bad_keep, with_rule}
 use Rattle.sm_defs.specs.Progress.{settled}
+use Rattle.sm_defs.proofs.Thinned.{filter_thins, thinned_shorter, after_thins}
+use Rattle.sm_defs.proofs.Members.{each_push}
 use Rattle.sm_model.specs.OfTransfers.{new_transfer}
-use Rattle.laws_transfer.proofs.Kept.{filter_thins}
-use Rattle.laws_cases.proofs.Lists.Frames.{each_push}
-use Rattle.laws_cases.proofs.Lists.Thinned.{thinned_shorter, after_thins}
 
 -- ---- policies
 

@@ -30,12 +30,8 @@ use Rattle.sm_model.specs.Standing.{Stored}
 use Rattle.sm_model.specs.Formed.{FormedSnapshot, FormedVolume, FormedTransfer, FormedRelation, Formed}
 use Rattle.sm_model.specs.LegsFit.{FirstFits}
 use Rattle.sm_model.specs.Sound.{SoundUp}
-use Rattle.laws_transfer.proofs.Lists.{among_map}
 use Rattle.laws_transfer.proofs.Landed.{Lands, lands_free, free_ascend}
-use Rattle.laws_transfer.proofs.Kept.{filter_thins}
 use Rattle.laws_cases.proofs.Answers.Walk.{going}
-use Rattle.laws_cases.proofs.Lists.Members.{among_get_or}
-use Rattle.laws_cases.proofs.Lists.Thinned.{thinned_among, thinned_shorter}
 use Rattle.laws_cases.proofs.Steps.Parties.{relation_stands, source_stands, destination_stands, snapshot_is}
 use Rattle.laws_cases.proofs.Steps.DueCases.{Ahead, IsDue, due_revert, due_finish, due_settle, due_prepare, due_prune, due_publish, due_checkpoint, due_ship, kind_is_due, no_reason, tidy_within}
 use Rattle.laws_cases.proofs.Steps.Landing.{reverted_thins, base_member, in_snapshot}
@@ -52,6 +48,8 @@ use Rattle.laws_form.proofs.FormedEvents.{only_transfer}
 use Rattle.laws_cases.proofs.Answers.Deeds.{done_gives}
 use Rattle.sm_defs.specs.Progress.{landed_prefix}
 use Rattle.sm_defs.specs.Operations as operations
+use Rattle.sm_defs.proofs.Members.{among_get_or, among_map}
+use Rattle.sm_defs.proofs.Thinned.{filter_thins, thinned_among, thinned_shorter}
 
 abbrev By : Effect → Type 0
 By e = Formed e.world

@@ -10,16 +10,14 @@ use Rattle.sm_defs.specs.Thinned.{Thinned, end, kept, left_out}
 use Rattle.sm_defs.specs.Volume.{Volume, no_volume}
 use Rattle.sm_defs.specs.Relationship.{Policy, Relationship, Transfer}
 use Rattle.sm_defs.specs.World.{Up, volume_at, policy_at, relation_at, with_volume, with_relation, no_policy, no_relation}
+use Rattle.sm_defs.proofs.Members.{among_filter, among_set, each_mapped, each_push, each_pushed}
+use Rattle.sm_defs.proofs.Thinned.{filter_thins, thinned_each, thinned_shorter}
+use Rattle.sm_defs.proofs.Keys.{differ_push, differ_set, mapped_differ, mapped_each}
 use Rattle.sm_model.specs.OfVolumes.{with_new_volume}
 use Rattle.sm_model.specs.OfPolicies.{with_new_policy, with_policy, at_time}
 use Rattle.sm_model.specs.OfRelations.{has_a_half, with_halves}
 use Rattle.sm_model.specs.Formed.{FormedVolume, FormedPolicy, FormedTransfer, FormedRelation, NumbersAscend, Formed, path_of, disk_of, policy_name}
-use Rattle.laws_transfer.proofs.Lists.{among_filter}
-use Rattle.laws_transfer.proofs.Kept.{filter_thins}
-use Rattle.laws_cases.proofs.Lists.Members.{among_set}
-use Rattle.laws_cases.proofs.Lists.Thinned.{thinned_each, thinned_shorter}
-use Rattle.laws_cases.proofs.Lists.Frames.{each_set, each_push, each_mapped, differ_set}
-use Rattle.laws_copies.proofs.Tags.{differ_push, each_pushed}
+use Rattle.laws_cases.proofs.Lists.Frames.{each_set}
 use Rattle.laws_cases.proofs.Needed.Needs.{mapped_length}
 
 -- ---- volumes
@@ -50,14 +48,6 @@ pub formed_push : (w : Up) (u : Volume) → length w.volumes < MOST_VOLUMES → 
     Formed w → FormedVolume u → Formed (with_new_volume w u)
 formed_push w u l a b h k = with_volumes w (w.volumes ++ u ∷ []) (each_push FormedVolume w.volumes u h.volumes k) (rw (length-append w.volumes (u ∷ [])) (omega (arith, l)))
     (differ_push path_of w.volumes u h.paths_differ a) (differ_push disk_of w.volumes u h.disks_differ b) h
-
-mapped_each : {X : Type 0} (P : X → Type 0) (f : X → X) (xs : List X) → ((x : X) → P x → P (f x)) → AllByRecursion P xs → AllByRecursion P (map f xs)
-mapped_each P f [] h a = tt
-mapped_each P f (x ∷ xs) h a = (h x a.0, mapped_each P f xs h a.1)
-
-mapped_differ : {X K : Type 0} (key : X → K) (f : X → X) (xs : List X) → ((x : X) → key (f x) ≡ key x) → KeysDiffer key xs → KeysDiffer key (map f xs)
-mapped_differ key f [] h d = tt
-mapped_differ key f (x ∷ xs) h d = (mapped_each (λ y. ¬ (key y ≡ key (f x))) f xs (λ y n e. n (sym (h y) ∙ e)) (subst (λ k. AllByRecursion (λ y. ¬ (key y ≡ k)) xs) (sym (h x)) d.0), mapped_differ key f xs h d.1)
 
 pub volumes_mapped : (w : Up) (f : Volume → Volume) → ((v : Volume) → (f v).path ≡ v.path) → ((v : Volume) → (f v).disk ≡ v.disk) → ((v : Volume) → FormedVolume v → FormedVolume (f v)) →
     Formed w → Formed (record w { volumes = map f w.volumes })

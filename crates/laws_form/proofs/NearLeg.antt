@@ -9,11 +9,10 @@ use Rattle.sm_model.specs.LegsFit.{FirstFits, FirstLegFits}
 use Rattle.sm_model.specs.Running.{running_in}
 use Rattle.sm_model.specs.Steps.{cost}
 use Rattle.sm_model.specs.Sound.{SoundUp}
-use Rattle.laws_transfer.proofs.Lists.{among_map}
-use Rattle.laws_cases.proofs.Lists.Members.{among_get_or}
 use Rattle.laws_cases.proofs.Steps.Parties.{snapshot_is, found_one}
 use Rattle.laws_cases.proofs.Steps.Costs.{cost_at_most, prefix_at_most}
 use Rattle.sm_defs.specs.Progress.{landed_prefix}
+use Rattle.sm_defs.proofs.Members.{among_get_or, among_map}
 
 -- a leg on the source costs at most as many blocks as a volume may have
 pub leg_costs : (w : Up) (r : Relationship) (t : Transfer) (leg : Snapshot) → SoundUp w → Among w.relations r → Among (volume_at w r.source).snapshots leg → cost (running_in w r t) leg < 2 ^ 32

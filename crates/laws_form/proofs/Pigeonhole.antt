@@ -3,7 +3,7 @@ use Rattle.std.proofs.Common.{◌≡◌, ℕ, zero, suc, ◌+◌, ◌<◌, ◌�
 use Rattle.std.proofs.lemmas.Bool.{or_from, or_left, or_right, both_ways, eqb-false}
 use Rattle.std.proofs.lemmas.Bool.Decides.{nat_tests}
 use Rattle.sm_defs.specs.Image.{stands, distinct}
-use Rattle.laws_copies.proofs.Tags.{any_left}
+use Rattle.sm_defs.proofs.Members.{any_left}
 
 -- the list without n
 abbrev without : ℕ → List ℕ → List ℕ

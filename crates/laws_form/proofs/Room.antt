@@ -8,9 +8,9 @@ use Rattle.sm_defs.specs.Image.{Block, Image, tags, stands}
 use Rattle.sm_defs.specs.Volume.{Volume, images_of, tags_of, numbers, free_tags, free, used}
 use Rattle.sm_model.specs.TagsFit.{TagsFitIn}
 use Rattle.sm_defs.specs.Operations.{first_of}
-use Rattle.laws_transfer.proofs.Lists.{among_stands}
-use Rattle.laws_transfer.proofs.Landed.{free_ascend, to_numbers}
-use Rattle.laws_copies.proofs.Tags.{any_left, any_right}
+use Rattle.sm_defs.proofs.Members.{among_stands, any_left, any_right}
+use Rattle.sm_defs.proofs.Numbers.{to_numbers}
+use Rattle.laws_transfer.proofs.Landed.{free_ascend}
 use Rattle.laws_form.proofs.Pigeonhole.{at_least, at_most, distinct_append}
 
 none_go : (p : ℕ → Bool) (x t : ℕ) (xs : List ℕ) (b : Bool) → p x ≡ b → x ≢ 0 → first_of (cond b (x ∷ filter p xs) (filter p xs)) ≡ 0 →

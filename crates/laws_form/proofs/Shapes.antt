@@ -13,12 +13,12 @@ use Rattle.sm_model.specs.Standing.{Stored}
 use Rattle.sm_model.specs.Formed.{FormedSnapshot, FormedVolume}
 use Rattle.sm_defs.specs.Operations.{first_of, with_snapshot, counted, writable}
 use Rattle.sm_model.specs.OfVolumes.{written}
-use Rattle.laws_cases.proofs.Lists.Thinned.{thinned_among, thinned_shorter}
-use Rattle.laws_cases.proofs.Lists.Frames.{each_push}
 use Rattle.laws_cases.proofs.Steps.Costs.{among_same}
 use Rattle.laws_copies.proofs.Tags.{ImagesFrom, stored_from, pointed_from, reopened_from, thinned_from, snapped_from, written_stored, tag_of_full}
 use Rattle.laws_copies.proofs.TagsStay.{new_stored}
 use Rattle.sm_defs.specs.Operations as operations
+use Rattle.sm_defs.proofs.Thinned.{thinned_among, thinned_shorter}
+use Rattle.sm_defs.proofs.Members.{each_push}
 
 -- ---- images of a volume that was formed
 

@@ -7,7 +7,7 @@ use Rattle.std.proofs.lemmas.Slice.Eq.{bytes_eq-Decides}
 use Rattle.sm_defs.specs.Words.{Among}
 use Rattle.sm_defs.specs.Volume.{Volume}
 use Rattle.sm_defs.specs.Relationship.{Policy}
-use Rattle.laws_transfer.proofs.Lists.{any_among}
+use Rattle.sm_defs.proofs.Members.{any_among}
 
 -- no element of a list passes a test
 pub none_pass : {X : Type 0} (p : X → Bool) (xs : List X) (x : X) → list_any p xs ≡ false → Among xs x → ¬ (p x ≡ true)

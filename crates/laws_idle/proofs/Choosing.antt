@@ -10,12 +10,12 @@ use Rattle.sm_defs.specs.Volume.{Snapshot, numbers}
 use Rattle.sm_defs.specs.Relationship.{Relationship, Transfer}
 use Rattle.sm_defs.specs.Edges.{runs, is_running}
 use Rattle.sm_defs.specs.World.{Up, no_relation}
+use Rattle.sm_defs.proofs.Members.{among_filter, get_among}
+use Rattle.sm_defs.proofs.Searches.{find_is}
 use Rattle.sm_model.specs.Running.{Running, running_in, IsRunning}
 use Rattle.sm_model.specs.Steps.{Effect, cost, may_ship}
 use Rattle.sm_model.specs.Due.{StepKind, revert, finish, settle, prepare, prune, publish, checkpoint, ship, kind_due, IsEffect, IsStep, by_transfer, by_tidy, tidy_due}
 use Rattle.sm_model.specs.Choice.{with_running, running_from, running, taken, shippable, effect_for, chosen_for, chosen_of, tidied, chosen}
-use Rattle.laws_transfer.proofs.Lists.{among_filter}
-use Rattle.laws_cases.proofs.Lists.Members.{get_among, find_is}
 
 -- the relationship stands at its place, counted from k on, and its transfer runs
 pub record IsIn (k : ℕ) (rs : List Relationship) (f : Found Relationship) : Type 0 where

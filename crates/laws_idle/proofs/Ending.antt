@@ -6,6 +6,7 @@ use Rattle.sm_model.specs.declared.event.Event.{Event}
 use Rattle.sm_defs.specs.Words.{Among}
 use Rattle.sm_defs.specs.Relationship.{Relationship, Transfer}
 use Rattle.sm_defs.specs.World.{Up, with_relation}
+use Rattle.sm_defs.proofs.Members.{among_append, among_filter, among_set, from_map}
 use Rattle.sm_model.specs.World.{Deed}
 use Rattle.sm_model.specs.Answers.{Told}
 use Rattle.sm_model.specs.OfRelations.{has_a_half, new_relation}
@@ -15,10 +16,8 @@ use Rattle.sm_model.specs.Running.{Running, IsRunning}
 use Rattle.sm_model.specs.Steps.{Effect}
 use Rattle.sm_model.specs.Due.{StepKind, revert, finish, settle, prepare, prune, publish, checkpoint, ship, settled_relation, IsEffect, IsStep, by_transfer, by_tidy}
 use Rattle.sm_model.specs.LegalRun.{IsStepDeed, IsDeed}
-use Rattle.laws_transfer.proofs.Lists.{among_append, from_map, among_filter}
 use Rattle.laws_idle.specs.Idling.{EndsAtBase}
 use Rattle.laws_cases.proofs.Answers.Walk.{going}
-use Rattle.laws_cases.proofs.Lists.Members.{among_set}
 use Rattle.laws_cases.proofs.Steps.Parties.{relation_stands}
 use Rattle.laws_cases.proofs.Answers.Changes as answers
 use Rattle.laws_cases.proofs.Answers.Changes.{IsChange, IsAnswer, Follows}

@@ -8,16 +8,16 @@ use Rattle.sm_defs.specs.Volume.{Snapshot, numbers}
 use Rattle.sm_defs.specs.Relationship.{Relationship, Transfer}
 use Rattle.sm_defs.specs.Edges.{runs, is_running}
 use Rattle.sm_defs.specs.World.{Up, no_relation}
+use Rattle.sm_defs.proofs.Members.{any_among}
+use Rattle.sm_defs.proofs.Numbers.{to_numbers}
+use Rattle.sm_defs.proofs.Searches.{find_none}
 use Rattle.sm_model.specs.Sound.{SoundUp}
 use Rattle.sm_model.specs.LegsFit.{InWindow}
 use Rattle.sm_model.specs.Running.{Running, running_in, IsRunning}
 use Rattle.sm_model.specs.Steps.{Effect, cost}
 use Rattle.sm_model.specs.Due.{StepKind, revert, finish, settle, prepare, prune, publish, checkpoint, ship, kind_due, by_transfer, by_tidy, tidy_due, IsIdle}
 use Rattle.sm_model.specs.Choice.{running_from, running, taken, shippable, shipped, effect_for, chosen_for, chosen_of, tidied, chosen}
-use Rattle.laws_transfer.proofs.Lists.{any_among}
-use Rattle.laws_transfer.proofs.Landed.{to_numbers}
 use Rattle.laws_idle.specs.Idling.{EndsAtBase}
-use Rattle.laws_cases.proofs.Lists.Members.{find_none}
 use Rattle.laws_cases.proofs.Steps.Parties.{relation_stands}
 use Rattle.laws_cases.proofs.Steps.DueCases.{IsDue, due_ship, kind_is_due, tidy_within}
 use Rattle.laws_idle.proofs.Choosing.{IsIn, running_is, taken_among, is_running_there, chosen_is_due}

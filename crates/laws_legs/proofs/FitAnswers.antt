@@ -14,7 +14,6 @@ use Rattle.sm_model.specs.Steps.{snapshot_of}
 use Rattle.sm_model.specs.LegsFit.{LegsFitFor, LegsFit}
 use Rattle.sm_model.specs.Sound.{SoundUp}
 use Rattle.laws_cases.specs.Needs.{KeepsNeeded}
-use Rattle.laws_cases.proofs.Lists.Members.{among_get_or}
 use Rattle.laws_cases.proofs.Needed.Needs.{set_cases, push_within}
 use Rattle.laws_cases.proofs.Needed.NeededHere.{base_at_source, leg_at_source}
 use Rattle.laws_cases.proofs.Needed.Leaving.{same_member}
@@ -32,6 +31,7 @@ use Rattle.laws_cases.proofs.Moves.PoliciesStay.{PoliciesStay, aside_policies}
 use Rattle.laws_cases.proofs.Steps.RunningTransfers.{one_destination}
 use Rattle.sm_defs.specs.Operations.{writable}
 use Rattle.sm_defs.specs.Progress.{settled, landed_prefix}
+use Rattle.sm_defs.proofs.Members.{among_get_or}
 
 abbrev pub FitsIn : Up → Relationship → Transfer → Type 0
 FitsIn w r t = LegsFitFor (running_in w r t)

@@ -12,13 +12,13 @@ use Rattle.sm_model.specs.LegsFit.{IsChecked, FirstFits, InWindow, LegsFitFor}
 use Rattle.sm_model.specs.Running.{Running}
 use Rattle.sm_model.specs.Steps.{snapshot_of, cost}
 use Rattle.sm_model.specs.Due.{insert_landed}
-use Rattle.laws_transfer.proofs.Lists.{stands_among, among_stands, has_from_copy}
-use Rattle.laws_transfer.proofs.Asc.{among_each}
+use Rattle.laws_transfer.proofs.Lists.{has_from_copy}
 use Rattle.laws_cases.proofs.Steps.DueCases.{Ahead}
 use Rattle.laws_cases.proofs.Steps.Parties.{snapshot_is}
 use Rattle.laws_cases.proofs.Steps.Shipping.{prefix_is}
 use Rattle.laws_legs.proofs.FitParts.{Alike, source_alike, reads_same}
 use Rattle.sm_defs.specs.Progress.{landed_prefix}
+use Rattle.sm_defs.proofs.Members.{among_each, among_stands, stands_among}
 
 -- the transfer goes on with the same legs, of which the first is ahead
 pub fits_going : (x y : Running) (leg : Snapshot) → Alike x y → Ahead x leg → y.transfer.legs ≡ x.transfer.legs → (is_mirror x.policy.kind ≡ true → IsChecked y.transfer → IsChecked x.transfer) →

@@ -19,14 +19,13 @@ use Rattle.sm_model.specs.Crossed.{CrossedRelation}
 use Rattle.sm_model.specs.DestinationsStand.{StandsAtSnapshot}
 use Rattle.sm_model.specs.LegsFit.{LegsFit}
 use Rattle.sm_model.specs.Sound.{SoundUp}
-use Rattle.laws_transfer.proofs.Lists.{from_map}
-use Rattle.laws_cases.proofs.Lists.Members.{among_get_or}
 use Rattle.laws_cases.proofs.Needed.Needs.{mapped_at}
 use Rattle.laws_cases.proofs.Needed.NeedsStay.{answers_keep}
 use Rattle.laws_cases.proofs.Moves.OfMoves.{answer_moves}
 use Rattle.laws_legs.proofs.FitParts.{Alike, fits_rested, fits_unbegun}
 use Rattle.laws_legs.proofs.FitAnswers.{FitsIn, resumed_rests, of_move}
 use Rattle.sm_defs.specs.Operations as operations
+use Rattle.sm_defs.proofs.Members.{among_get_or, from_map}
 
 pub answers_keep_fit : (w : Up) (e : Event) (reached : Reached) → SoundUp w → answer w e ≡ Some (Ok reached) → LegsFit reached.world
 answers_keep_fit w e reached s i = of_move w reached.world s (answer_moves w e reached i) (answers_keep w e reached i)

@@ -28,11 +28,10 @@ use Rattle.sm_model.specs.Standing.{Stands}
 use Rattle.sm_model.specs.declared.event.Event.{Event}
 use Rattle.sm_model.specs.World.{Deed}
 use Rattle.sm_model.specs.LegalRun.{IsDeed, IsStepDeed}
-use Rattle.laws_transfer.proofs.Lists.{copy_from_has, has_from_copy, among_right, among_filter, filter_among}
+use Rattle.laws_transfer.proofs.Lists.{copy_from_has, has_from_copy}
 use Rattle.laws_cases.specs.Needs.{KeepsNeeded}
 use Rattle.laws_cases.proofs.Needed.Needs.{set_cases, no_holder, none_held}
 use Rattle.laws_cases.proofs.Needed.NeedsStay.{deeds_keep}
-use Rattle.laws_cases.proofs.Lists.Members.{set_at}
 use Rattle.laws_cases.proofs.Steps.Parties.{source_stands, destination_stands, snapshot_is}
 use Rattle.laws_cases.proofs.Answers.Walk.{going}
 use Rattle.laws_cases.proofs.Answers.Plainly.{rw_from, rw_if}
@@ -52,6 +51,7 @@ use Rattle.laws_cases.proofs.Steps.LegsThere.{leg_there}
 use Rattle.laws_copies.proofs.RulesKeep.{vault_keeps_leg}
 use Rattle.laws_cases.proofs.Steps.RunningTransfers.{here, crossed, at_x, source_x, own_here, same_family}
 use Rattle.sm_defs.specs.Progress.{landed_prefix}
+use Rattle.sm_defs.proofs.Members.{among_filter, among_right, filter_among, set_at}
 
 -- images with the same numbers and the same bytes are the same
 same_image : (xs ys : Image) → tags xs ≡ tags ys → SameContents xs ys → xs ≡ ys

@@ -9,12 +9,12 @@ use Rattle.sm_defs.specs.Volume.{Snapshot, ident_of, has, no_volume}
 use Rattle.sm_defs.specs.Relationship.{Relationship, Transfer, is_mirror, sends_all}
 use Rattle.sm_defs.specs.Legs.{made_ident, mirror_legs, vault_legs, candidates}
 use Rattle.sm_defs.specs.World.{Up, volume_at, policy_at}
+use Rattle.sm_defs.proofs.Members.{among_get_or}
 use Rattle.sm_model.specs.OfTransfers.{next_legs, new_transfer, source_of}
 use Rattle.sm_model.specs.Crossed.{IsReservedLeg, CrossedRelation}
 use Rattle.sm_model.specs.LegsKept.{LegsHaveClasses, LegsKept}
 use Rattle.sm_model.specs.Sound.{SoundUp}
 use Rattle.laws_transfer.proofs.Sent.{vault_sends}
-use Rattle.laws_cases.proofs.Lists.Members.{among_get_or}
 use Rattle.laws_cases.proofs.Needed.Leaving.{same_member, from_base}
 use Rattle.laws_cases.proofs.Lists.MoveFrames.{OfEach}
 use Rattle.laws_copies.proofs.Arriving.{IsOldOrNew, Arrives}

@@ -18,8 +18,6 @@ use Rattle.sm_model.specs.Steps.{Effect, with_destination, interrupted}
 use Rattle.sm_model.specs.Due.{StepKind, IsEffect, IsStep, by_transfer, by_tidy, settled_relation, goes}
 use Rattle.sm_model.specs.LegsKept.{LegsKept}
 use Rattle.sm_model.specs.Sound.{SoundUp}
-use Rattle.laws_transfer.proofs.Lists.{from_map}
-use Rattle.laws_transfer.proofs.Kept.{filter_thins}
 use Rattle.laws_cases.proofs.Answers.Walk.{going}
 use Rattle.laws_cases.proofs.Needed.Needs.{mapped_at}
 use Rattle.laws_cases.proofs.Steps.Parties.{relation_stands, at_x}
@@ -33,6 +31,8 @@ use Rattle.laws_legs.proofs.KeptParts.{VaultKeeps, kept_aside, kept_on, kept_new
 use Rattle.laws_cases.proofs.Moves.PoliciesStay.{same_policies, aside_policies}
 use Rattle.sm_defs.specs.Progress.{settled}
 use Rattle.sm_defs.specs.Operations as operations
+use Rattle.sm_defs.proofs.Members.{from_map}
+use Rattle.sm_defs.proofs.Thinned.{filter_thins}
 
 -- ---- events
 

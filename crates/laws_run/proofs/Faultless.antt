@@ -7,6 +7,7 @@ use Rattle.sm_base.specs.declared.refusal.Refusal.TheVariants as refusals
 use Rattle.sm_base.specs.declared.refusal.What.TheVariants.{Volumes, Policies, Relations, Transfers}
 use Rattle.sm_defs.specs.Words.{Among}
 use Rattle.sm_defs.specs.World.{Up}
+use Rattle.sm_defs.proofs.Members.{among_each}
 use Rattle.sm_model.specs.declared.event.Event.{Event}
 use Rattle.sm_model.specs.declared.event.Event.TheVariants as events
 use Rattle.sm_model.specs.declared.reply.Entry.{Entry}
@@ -17,7 +18,6 @@ use Rattle.sm_model.specs.Answer.{answer}
 use Rattle.sm_model.specs.LegalRun.{Counts, Rises, FaultsRise}
 use Rattle.laws_run.specs.Histories.{IsFaultless, AllFaultless}
 use Rattle.laws_run.specs.Listed.{IsListed}
-use Rattle.laws_transfer.proofs.Asc.{among_each}
 use Rattle.laws_cases.proofs.Answers.Deeds.{ok_is_no_refusal}
 use Rattle.laws_run.proofs.Listing.{refusal_listed}
 use Rattle.laws_cases.proofs.Answers.Refused.{same_refusal}

@@ -4,13 +4,13 @@ use Rattle.sm_base.specs.declared.numbers.Ident.{Ident}
 use Rattle.sm_base.specs.declared.numbers.Side.{Side}
 use Rattle.sm_defs.specs.Words.{Among}
 use Rattle.sm_defs.specs.World.{Up}
+use Rattle.sm_defs.proofs.Members.{among_each}
 use Rattle.sm_model.specs.declared.reply.Entry.{Entry}
 use Rattle.sm_model.specs.World.{World, up, down, Deed}
 use Rattle.sm_model.specs.Origin.{makes, origin}
 use Rattle.sm_model.specs.Drops.{Drops, NamedFor}
 use Rattle.sm_model.specs.LegalRun.{Run}
 use Rattle.sm_model.specs.Sound.{SoundUp, Sound}
-use Rattle.laws_transfer.proofs.Asc.{among_each}
 use Rattle.laws_sound.proofs.Soundly.{entries_keep_sound}
 use Rattle.laws_contents.proofs.Along.{along_deed, along_start}
 use Rattle.laws_contents.proofs.Contents.{Ready, made_once, of_entry}

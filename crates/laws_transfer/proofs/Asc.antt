@@ -8,17 +8,8 @@ use Rattle.sm_defs.specs.Words.{Among, Ascends}
 use Rattle.sm_defs.specs.Image.{Block, Image, tags, stands}
 use Rattle.sm_defs.specs.Volume.{Snapshot, image_of}
 use Rattle.sm_defs.specs.Missing.{Bases, insert_once, ascending, tags_in, is_missing_tag, missing_tags, mirror_cost, first_tag, rest, is_missing_at, missing_from, missing_places, vault_cost}
+use Rattle.sm_defs.proofs.Members.{among_each, among_filter, among_flat_map, among_stands, each_among, filter_among, from_flat_map, stands_among}
 use Rattle.laws_transfer.specs.Costs.{HaveTag, tag_at, IsMissingTag, IsMissingPlace}
-use Rattle.laws_transfer.proofs.Lists.{stands_among, among_stands, among_flat_map, from_flat_map, filter_among, among_filter}
-
-pub each_among : {X : Type 0} (P : X → Type 0) (xs : List X) → ((x : X) → Among xs x → P x) → AllByRecursion P xs
-each_among P [] h = tt
-each_among P (x ∷ xs) h = (h x (inl refl), each_among P xs (λ y m. h y (inr m)))
-
-pub among_each : {X : Type 0} (P : X → Type 0) (xs : List X) (x : X) → AllByRecursion P xs → Among xs x → P x
-among_each P [] x h m = absurd m
-among_each P (y ∷ xs) x h (inl e) = subst P (sym e) h.0
-among_each P (y ∷ xs) x h (inr m) = among_each P xs x h.1 m
 
 -- ---- a number put in
 

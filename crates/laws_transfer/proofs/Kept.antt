@@ -6,7 +6,7 @@ use Rattle.std.proofs.lemmas.List.Sums.{sum_by-cons}
 use Rattle.std.proofs.lemmas.Slice.Eq.{bytes_eq-Decides}
 use Rattle.std.specs.Option.{option_eq}
 use Rattle.std.specs.Str.{bytes_eq}
-use Rattle.std.specs.List.{filter, find}
+use Rattle.std.specs.List.{find}
 use Rattle.sm_base.specs.declared.numbers.Ident.{Ident}
 use Rattle.sm_defs.specs.Classes.{classes}
 use Rattle.sm_defs.specs.Words.{Among, last_that, or_earlier, is_ident, has_ident}
@@ -19,9 +19,12 @@ use Rattle.sm_defs.specs.Thinned.{Thinned, end, kept, left_out}
 use Rattle.sm_defs.specs.Retention.{retained, keeps, labelled, keeps_by_rule, is_reached, keep_reached}
 use Rattle.sm_defs.specs.Pruning.{is_made, covered, is_pruned, pruned}
 use Rattle.sm_defs.specs.Common.{common}
+use Rattle.sm_defs.proofs.Members.{among_filter, any_among, filter_among}
+use Rattle.sm_defs.proofs.Idents.{is_same}
+use Rattle.sm_defs.proofs.Thinned.{cond_thins as thin_go, filter_thins}
 use Rattle.laws_transfer.specs.Keeping.{IsReached, IsWanted}
 use Rattle.laws_transfer.specs.Dropping.{HasCopy, IsCovered, IsNewestCommon}
-use Rattle.laws_transfer.proofs.Lists.{any_among, filter_among, among_filter, is_same, copy_from_has, has_from_copy}
+use Rattle.laws_transfer.proofs.Lists.{copy_from_has, has_from_copy}
 
 -- ---- retention
 
@@ -35,10 +38,6 @@ keeps_needed rules class needs (x ∷ newer) s m e = go (keeps rules class needs
     go true f (inr n) ih = inr (ih n e)
     go false f (inl k) ih = absurd (both_ways (keeps rules class needs x (retained rules class needs newer)) f (or_left (needs x.ident) _ (subst (λ y. needs y.ident ≡ true) k e)))
     go false f (inr n) ih = ih n e
-
-thin_go : {X : Type 0} (b : Bool) (x : X) (xs ys : List X) → Thinned xs ys → Thinned (cond b (x ∷ xs) xs) (x ∷ ys)
-thin_go true x xs ys h = kept h
-thin_go false x xs ys h = left_out h
 
 pub thins : (rules : List Rule) (class : Snapshot → Option (List ℕ)) (needs : Ident → Bool) (ss : List Snapshot) → Thinned (retained rules class needs ss) ss
 thins rules class needs [] = end
@@ -252,10 +251,6 @@ prunes policy needs source destination s = (
   λ h. filter_among (is_pruned policy needs source) destination s h.0
       (and_from (not (needs s.ident)) (not (has source s.ident) || not (covered policy s)) (not_from_false (needs s.ident) h.1) (goes_to policy source s h.2)),
 )
-
-pub filter_thins : {X : Type 0} (p : X → Bool) (xs : List X) → Thinned (filter p xs) xs
-filter_thins p [] = end
-filter_thins p (x ∷ xs) = thin_go (p x) x (filter p xs) xs (filter_thins p xs)
 
 pub prune_thins : (policy : Policy) (needs : Ident → Bool) (source destination : List Snapshot) → Thinned (pruned policy needs source destination) destination
 prune_thins policy needs source destination = filter_thins (is_pruned policy needs source) destination

@@ -1,17 +1,17 @@
 -- What lands at a vault.
 use Rattle.std.proofs.Common.{◌≡◌, ◌≢◌, ◌⊎◌, ◌↔◌, ◌<◌, ◌≤◌, ◌+◌, ℕ, zero, suc, ◌==◌, not, Bool, true, false, cond, List, [], ◌∷◌, map, length, Some, refl, ap, ap₂, sym, subst, ◌∙◌, inl, inr, eqb-true, arith}
-use Rattle.std.proofs.lemmas.Bool.{not-true, not_from_false, eqb-false, cases_eq}
+use Rattle.std.proofs.lemmas.Bool.{not-true, not_from_false, eqb-false}
 use Rattle.std.proofs.lemmas.Option.{same_Some}
 use Rattle.std.specs.Prelude.{slice_get}
-use Rattle.std.specs.List.{filter}
 use Rattle.sm_defs.specs.Words.{Among, Ascends}
 use Rattle.sm_defs.specs.Image.{Block, Image, SameContents, bytes_of, hole, stands, tags, tag_of}
 use Rattle.sm_defs.specs.Volume.{Volume, numbers, free_tags, tags_of}
 use Rattle.sm_defs.specs.Missing.{Bases, first_tag, first_block, first_number, rest, moved, is_missing_at, missing_from, missing_places, vault_cost, landed_from, vault_landing}
+use Rattle.sm_defs.proofs.Members.{among_filter, each_among, filter_among}
+use Rattle.sm_defs.proofs.Numbers.{filter_ascends, numbers_from, to_numbers}
 use Rattle.laws_transfer.specs.Costs.{tag_at}
 use Rattle.laws_transfer.specs.Landing.{LandsWhole, LandsFree, missing_numbers_from, landed_numbers}
-use Rattle.laws_transfer.proofs.Lists.{filter_among, among_filter}
-use Rattle.laws_transfer.proofs.Asc.{each_among, among_each, next_tag, first_is_at, missing_cases}
+use Rattle.laws_transfer.proofs.Asc.{next_tag, first_is_at, missing_cases}
 
 next_get : {X : Type 0} (xs : List X) (p : ℕ) → slice_get (rest xs) p ≡ slice_get xs (suc p)
 next_get [] p = refl
@@ -105,37 +105,9 @@ in_order leg bases free k p t e f = let g = placed 0 leg bases.at_source bases.a
 
 -- ---- free numbers
 
-numbers_from : (n t k : ℕ) → Among (numbers t n) k → (t ≤ k) × (k < t + n)
-numbers_from zero t k m = absurd m
-numbers_from (suc n) t k (inl e) = (omega arith, omega arith)
-numbers_from (suc n) t k (inr m) = let h = numbers_from n (suc t) k m in (omega arith, omega arith)
-
-pub order : (t k : ℕ) → t ≤ k → (k ≡ t) ⊎ (suc t ≤ k)
-order t k h = go (cases_eq k t)
-  where
-    go : (k ≡ t) ⊎ (k ≡ t → ⊥) → (k ≡ t) ⊎ (suc t ≤ k)
-    go (inl e) = inl e
-    go (inr n) = inr (omega arith)
-
-pub to_numbers : (n t k : ℕ) → t ≤ k → k < t + n → Among (numbers t n) k
-to_numbers zero t k h l = absurd (omega arith)
-to_numbers (suc n) t k h l = go (order t k h) (to_numbers n (suc t) k)
-  where
-    go : (k ≡ t) ⊎ (suc t ≤ k) → (suc t ≤ k → k < suc t + n → Among (numbers (suc t) n) k) → Among (numbers t (suc n)) k
-    go (inl e) ih = inl e
-    go (inr g) ih = inr (ih g (omega arith))
-
 numbers_ascend : (n t : ℕ) → Ascends (numbers t n)
 numbers_ascend zero t = tt
 numbers_ascend (suc n) t = (each_among (λ u. t < u) (numbers (suc t) n) (λ x m. let h = numbers_from n (suc t) x m in omega arith), numbers_ascend n (suc t))
-
-filter_ascends : (p : ℕ → Bool) (ts : List ℕ) → Ascends ts → Ascends (filter p ts)
-filter_ascends p [] h = tt
-filter_ascends p (t ∷ ts) h = go (p t) (filter_ascends p ts h.1)
-  where
-    go : (b : Bool) → Ascends (filter p ts) → Ascends (cond b (t ∷ filter p ts) (filter p ts))
-    go true ih = (each_among (λ u. t < u) (filter p ts) (λ x m. among_each (λ u. t < u) ts x h.0 (among_filter p ts x m).0), ih)
-    go false ih = ih
 
 pub free_from : (v : Volume) (t : ℕ) → Among (free_tags v) t → (1 ≤ t) × (t ≤ v.physical) × (stands t (tags_of v) ≡ false)
 free_from v t m =
@@ -251,8 +223,3 @@ pub maps_alone : (leg : Image) (bases : Bases) (free : List ℕ) →
     (missing_places leg bases ≡ missing_numbers_from 0 (tags leg) (tags bases.at_source)) ×
     (tags (vault_landing leg bases free) ≡ landed_numbers (tags leg) (tags bases.at_source) (tags bases.at_destination) free)
 maps_alone leg bases free = (missing_map 0 leg bases.at_source, landed_map leg bases.at_source bases.at_destination free)
-
-pub below_numbers : (n t k : ℕ) → Among (numbers t n) k → k < t + n
-below_numbers zero t k m = absurd m
-below_numbers (suc n) t k (inl e) = omega arith
-below_numbers (suc n) t k (inr m) = let h = below_numbers n (suc t) k m in omega arith

@@ -8,10 +8,7 @@ use Rattle.sm_defs.specs.Words.{Among, same_ident, has_ident}
 use Rattle.sm_defs.specs.Volume.{Snapshot, idents}
 use Rattle.sm_defs.specs.Relationship.{Rule}
 use Rattle.sm_defs.specs.Retention.{retained, label_of}
-
-same_is : (i j : Ident) → same_ident i j ≡ true → i ≡ j
-same_is i j e = let p = and_parts (i.origin == j.origin) (i.seq == j.seq) e in
-    ap₂ (λ a b. record { origin = a; seq = b }) (eqb-true i.origin j.origin p.0) (eqb-true i.seq j.seq p.1)
+use Rattle.sm_defs.proofs.Idents.{same_is}
 
 is_same : (i : Ident) → same_ident i i ≡ true
 is_same i = and_from (i.origin == i.origin) (i.seq == i.seq) (eq-eqb _ _ refl) (eq-eqb _ _ refl)

@@ -11,7 +11,7 @@ numbers_from zero t k m = absurd m
 numbers_from (suc n) t k (inl e) = (omega arith, omega arith)
 numbers_from (suc n) t k (inr m) = let h = numbers_from n (suc t) k m in (omega arith, omega arith)
 
-order : (t k : ℕ) → t ≤ k → (k ≡ t) ⊎ (suc t ≤ k)
+pub order : (t k : ℕ) → t ≤ k → (k ≡ t) ⊎ (suc t ≤ k)
 order t k h = go (cases_eq k t)
   where
     go : (k ≡ t) ⊎ (k ≡ t → ⊥) → (k ≡ t) ⊎ (suc t ≤ k)

@@ -1,7 +1,7 @@
 -- A list with some members left out.
 use Rattle.std.proofs.Common.{◌≡◌, ◌≤◌, Bool, true, false, cond, List, [], ◌∷◌, map, length, inl, inr, arith}
 use Rattle.std.specs.List.{filter, AllByRecursion}
-use Rattle.sm_defs.specs.Words.{Among, KeysDiffer, up_to}
+use Rattle.sm_defs.specs.Words.{Among, KeysDiffer, up_to, after}
 use Rattle.sm_defs.specs.Thinned.{Thinned, end, kept, left_out}
 
 pub all_kept : {X : Type 0} (xs : List X) → Thinned xs xs
@@ -53,3 +53,12 @@ pub thinned_map : {X Y : Type 0} (f : X → Y) {xs ys : List X} → Thinned xs y
 thinned_map f end = end
 thinned_map f (kept t) = kept (thinned_map f t)
 thinned_map f (left_out t) = left_out (thinned_map f t)
+
+-- what stands behind the first that passes is the list with the rest left out
+pub after_thins : {X : Type 0} (p : X → Bool) (xs : List X) → Thinned (after p xs) xs
+after_thins p [] = end
+after_thins p (x ∷ xs) = go (p x) (after_thins p xs)
+  where
+    go : (b : Bool) → Thinned (after p xs) xs → Thinned (cond b xs (after p xs)) (x ∷ xs)
+    go true t = left_out (all_kept xs)
+    go false t = left_out t

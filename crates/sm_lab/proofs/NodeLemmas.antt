@@ -26,6 +26,7 @@ use Rattle.sm_model.specs.Answers.{Answer, and_then, refused_if, some_or, volume
 use Rattle.sm_model.specs.InRange.{HasRelation}
 use Rattle.sm_model.specs.OfVolumes as volumes
 use Rattle.sm_defs.specs.Operations as operations
+use Rattle.sm_defs.proofs.Searches.{a_place, found_first, no_place, none_found as found_none}
 use Rattle.sm_lab.specs.Reporting.{IsServed}
 use Rattle.sm_lab.specs.Node.{volume_of, IsAnswered, IsWritten, IsSnapped, IsShown, ChangesOne, write_test, snap_test, read_test, create_test}
 use Rattle.sm_lab.specs.declared.volume.Volume.{Volume}
@@ -69,35 +70,6 @@ pub same_if : (vs : List Volume) (at : ℕ) (d w : Volume) (r : Result Reply NoM
     OnErr r (map volume_of (slice_set vs at w) ≡ map volume_of vs)
 same_if vs at d w (Ok reply) h e = tt
 same_if vs at d w (Err x) h e = same_at vs at d w h e
-
--- the first that passes, or none
-found_by : {X : Type 0} (b : Bool) (x : X) (xs : List X) (m k : ℕ) (d : X) (o : Option (Found X)) → cond (not b) (1 + m) 0 ≡ k → (m < length xs → o ≡ Some (record { at = m; item = get_or xs m d })) →
-    k < suc (length xs) → cond b (Some (record { at = 0; item = x })) (next_place o) ≡ Some (record { at = k; item = get_or (x ∷ xs) k d })
-found_by true x xs m k d o e h less = rw (← e) refl
-found_by false x xs m k d o e h less =
-    let s : suc m ≡ k = omega arith in
-    let there = h (omega arith) in
-    rw (← s) (ap next_place there)
-
-found_first : {X : Type 0} (p : X → Bool) (xs : List X) (k : ℕ) (d : X) → prefix_len (λ x. not (p x)) xs ≡ k → k < length xs → found p xs ≡ Some (record { at = k; item = get_or xs k d })
-found_first p [] k d e h = absurd (omega arith)
-found_first p (x ∷ xs) k d e h = found_by (p x) x xs (prefix_len (λ y. not (p y)) xs) k d (found p xs) e (λ less. found_first p xs (prefix_len (λ y. not (p y)) xs) d refl less) h
-
-none_by : {X : Type 0} (b : Bool) (x : X) (m l : ℕ) (o : Option (Found X)) → suc l ≤ cond (not b) (1 + m) 0 → (l ≤ m → o ≡ None) → cond b (Some (record { at = 0; item = x })) (next_place o) ≡ None
-none_by true x m l o h f = absurd (omega arith)
-none_by false x m l o h f = ap next_place (f (omega arith))
-
-found_none : {X : Type 0} (p : X → Bool) (xs : List X) → length xs ≤ prefix_len (λ x. not (p x)) xs → found p xs ≡ None
-found_none p [] h = refl
-found_none p (x ∷ xs) h = none_by (p x) x (prefix_len (λ y. not (p y)) xs) (length xs) (found p xs) h (found_none p xs)
-
-no_place : (m l : ℕ) (b : Bool) → nat_lt m l ≡ b → cond b (Some m) None ≡ None → l ≤ m
-no_place m l true e h = absurd (cc)
-no_place m l false e h = grind (arith, nat_tests)
-
-a_place : (m l k : ℕ) (b : Bool) → nat_lt m l ≡ b → cond b (Some m) None ≡ Some k → (m ≡ k) × (k < l)
-a_place m l k true e h = let same : m ≡ k = cc in let less : m < l = grind (arith, nat_tests) in (same, omega arith)
-a_place m l k false e h = absurd (cc)
 
 abbrev is_at : List ℕ → model.Volume → Bool
 is_at path v = bytes_eq v.path path

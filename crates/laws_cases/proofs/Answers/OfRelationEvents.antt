@@ -20,8 +20,8 @@ use Rattle.sm_model.specs.Answers.{goes_to, Target}
 use Rattle.laws_cases.proofs.Answers.Walk.{OfOk, past, with_found, with_held, with_target, whether_so, passing, passed}
 use Rattle.laws_cases.proofs.Answers.Changes.{RelationAt, Follows, Starts, Is, breaks, relates, changes, halves, starts}
 use Rattle.laws_cases.proofs.Answers.Plainly.{volume_at_place, relation_at_place, by_told, by_done, same}
-use Rattle.laws_cases.proofs.Lists.Members.{found_passes}
 use Rattle.sm_defs.specs.Progress as progress
+use Rattle.sm_defs.proofs.Searches.{found_passes}
 
 -- ---- relationships
 

@@ -10,10 +10,10 @@ use Rattle.sm_defs.specs.Words.{Found, found}
 use Rattle.sm_defs.specs.Volume.{Volume, no_volume, is_rw}
 use Rattle.sm_defs.specs.Relationship.{Relationship}
 use Rattle.sm_defs.specs.World.{Up, no_relation}
+use Rattle.sm_defs.proofs.Searches.{found_among, found_at}
 use Rattle.sm_model.specs.Answers.{bytes, told}
 use Rattle.sm_model.specs.Origin.{made_by}
 use Rattle.laws_cases.proofs.Answers.Walk.{OfOk, now}
-use Rattle.laws_cases.proofs.Lists.Members.{found_among, found_at}
 use Rattle.laws_cases.proofs.Answers.Changes.{VolumeAt, WritableAt, RelationAt, IsPlain, PlainTold, IsChange, Is, elsewhere, plain}
 
 pub volume_at_place : (w : Up) (p : Volume → Bool) (v : Found Volume) → found p w.volumes ≡ Some v → VolumeAt w v

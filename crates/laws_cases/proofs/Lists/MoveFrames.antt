@@ -5,9 +5,8 @@ use Rattle.std.specs.List.{filter}
 use Rattle.std.proofs.lemmas.Option.{same_Some}
 use Rattle.sm_defs.specs.Words.{Among}
 use Rattle.sm_defs.specs.Relationship.{Relationship, Transfer}
+use Rattle.sm_defs.proofs.Members.{among_append, among_filter, among_set}
 use Rattle.sm_model.specs.OfRelations.{has_a_half}
-use Rattle.laws_transfer.proofs.Lists.{among_append, among_filter}
-use Rattle.laws_cases.proofs.Lists.Members.{among_set}
 
 -- P of each relationship of the list with its transfer
 abbrev pub OfEach : (Relationship → Transfer → Type 0) → List Relationship → Type 0

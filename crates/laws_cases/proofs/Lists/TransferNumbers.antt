@@ -4,8 +4,8 @@ use Rattle.std.specs.List.{filter_map, AllByRecursion}
 use Rattle.std.specs.Option.{option_map}
 use Rattle.sm_defs.specs.Words.{Among, KeysDiffer}
 use Rattle.sm_defs.specs.Relationship.{Relationship, Transfer}
+use Rattle.sm_defs.proofs.Members.{among_each}
 use Rattle.sm_model.specs.Crossed.{transfer_number}
-use Rattle.laws_transfer.proofs.Asc.{among_each}
 
 number_is : (r : Relationship) (t : Transfer) → r.transfer ≡ Some t → transfer_number r ≡ Some t.number
 number_is r t e = ap (option_map (λ (u : Transfer). u.number)) e

@@ -21,7 +21,6 @@ use Rattle.sm_model.specs.LegalRun.{IsStepDeed, IsDeed}
 use Rattle.sm_model.specs.OfRelations as relations
 use Rattle.sm_model.specs.OfTransfers as transfers
 use Rattle.laws_cases.proofs.Answers.Walk.{OfOk, past, with_found, with_ok, with_held, with_target, whether_so, now, passing, passed}
-use Rattle.laws_cases.proofs.Lists.Members.{found_among, found_at, found_within, found_passes}
 use Rattle.laws_cases.proofs.Answers.Changes.{VolumeAt, RelationAt}
 use Rattle.laws_cases.proofs.Answers.Plainly.{volume_at_place, writable_if, writable_at_place, relation_at_place, dp_from}
 use Rattle.laws_cases.proofs.Answers.OfVolumeEvents.{held_none, named_at_place}
@@ -30,6 +29,7 @@ use Rattle.laws_cases.proofs.Answers.OfAnswer.{OfAnswer}
 use Rattle.laws_cases.proofs.Answers.Deeds.{from_answer, done_gives}
 use Rattle.laws_cases.proofs.Moves.Moves.{PolicyAt, Aside, Turn, IsMove, Moves, nothing, clock, new_policy, rule, creates, writes, drops, points, breaks, snaps, quiesces, resumes, ends, ends_settled, halts, halts_settled, starts, resyncs, deletes, releases, aside, relates, turns, begins, halves}
 use Rattle.sm_defs.specs.Progress as progress
+use Rattle.sm_defs.proofs.Searches.{found_among, found_at, found_passes, found_within}
 
 pub policy_at_place : (w : Up) (p : Policy → Bool) (q : Found Policy) → found p w.policies ≡ Some q → PolicyAt w q
 policy_at_place w p q e = record { within = found_within p w.policies q e; among = found_among p w.policies q e; at = found_at p w.policies q no_policy e }

@@ -8,11 +8,10 @@ use Rattle.sm_defs.specs.Relationship.{Rule}
 use Rattle.sm_defs.specs.Retention.{retained, keeps}
 use Rattle.sm_defs.specs.World.{Up, volume_at, with_volume}
 use Rattle.sm_defs.specs.Legs.{after_base}
+use Rattle.sm_defs.proofs.Members.{among_append, among_each, among_filter, among_right, filter_among, set_at}
 use Rattle.sm_model.specs.Steps.{snapshot_of}
-use Rattle.laws_transfer.proofs.Lists.{among_filter, filter_among, copy_from_has, has_from_copy, among_right, among_append}
-use Rattle.laws_transfer.proofs.Asc.{among_each}
+use Rattle.laws_transfer.proofs.Lists.{copy_from_has, has_from_copy}
 use Rattle.laws_transfer.proofs.Kept.{begins}
-use Rattle.laws_cases.proofs.Lists.Members.{set_at}
 use Rattle.laws_cases.proofs.Steps.Parties.{snapshot_is, found_one}
 use Rattle.laws_cases.proofs.Needed.Needs.{set_cases, split_at, has_within}
 

@@ -6,7 +6,8 @@ use Rattle.sm_defs.specs.Words.{Among, is_ident, has_ident, same_ident}
 use Rattle.sm_defs.specs.Relationship.{Relationship, Transfer, legs_of}
 use Rattle.sm_defs.specs.Needed.{needed, needed_for}
 use Rattle.sm_defs.specs.World.{Up}
-use Rattle.laws_transfer.proofs.Lists.{any_among, is_same}
+use Rattle.sm_defs.proofs.Members.{any_among}
+use Rattle.sm_defs.proofs.Idents.{is_same}
 
 is_base : (o : Option Ident) (i : Ident) → o ≡ Some i → is_ident o i ≡ true
 is_base o i e = subst (λ y. is_ident y i ≡ true) (sym e) (is_same i i refl)

@@ -8,10 +8,11 @@ use Rattle.sm_defs.specs.Volume.{Volume, Snapshot, no_volume, has, without}
 use Rattle.sm_defs.specs.Relationship.{Relationship}
 use Rattle.sm_defs.specs.Needed.{needed, needed_for, holder}
 use Rattle.sm_defs.specs.World.{Up, volume_at, with_volume}
+use Rattle.sm_defs.proofs.Members.{filter_among}
+use Rattle.sm_defs.proofs.Searches.{find_none}
 use Rattle.sm_model.specs.OfTransfers.{Holding, first_held, holding}
-use Rattle.laws_transfer.proofs.Lists.{filter_among, copy_from_has, has_from_copy}
+use Rattle.laws_transfer.proofs.Lists.{copy_from_has, has_from_copy}
 use Rattle.laws_cases.specs.Needs.{KeepsNeeded}
-use Rattle.laws_cases.proofs.Lists.Members.{find_none}
 
 pub set_cases : {X : Type 0} (xs : List X) (k v : ℕ) (y d : X) → (slice_index_or (slice_set xs k y) v d ≡ slice_index_or xs v d) ⊎ ((v ≡ k) × (slice_index_or (slice_set xs k y) v d ≡ y))
 set_cases [] k v y d = inl refl

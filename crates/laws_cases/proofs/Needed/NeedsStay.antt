@@ -19,7 +19,7 @@ use Rattle.sm_model.specs.Running.{Running, IsRunning}
 use Rattle.sm_model.specs.Steps.{Effect, reverted, arrived, published}
 use Rattle.sm_model.specs.Due.{StepKind, revert, finish, settle, prepare, prune, publish, checkpoint, ship, IsEffect, IsStep, by_transfer, by_tidy, is_tidied, goes, held_reason}
 use Rattle.sm_model.specs.LegalRun.{IsStepDeed, IsDeed}
-use Rattle.laws_transfer.proofs.Lists.{same_is, among_left, copy_from_has, has_from_copy}
+use Rattle.laws_transfer.proofs.Lists.{copy_from_has, has_from_copy}
 use Rattle.laws_transfer.proofs.Kept.{keeps_needed}
 use Rattle.laws_cases.specs.Needs.{KeepsNeeded}
 use Rattle.laws_cases.proofs.Answers.Walk.{going}
@@ -29,6 +29,8 @@ use Rattle.laws_cases.proofs.Answers.OfAnswer.{of_answer}
 use Rattle.laws_cases.proofs.Answers.Deeds.{IsAnswered, from_answer, deed_cases}
 use Rattle.laws_cases.proofs.Needed.Needs.{keeps_set, push_within, beyond, within_or_beyond, has_within, mapped_at, mapped_length, without_keeps, split_at, no_holder, none_held}
 use Rattle.sm_defs.specs.Operations as operations
+use Rattle.sm_defs.proofs.Idents.{same_is}
+use Rattle.sm_defs.proofs.Members.{among_left}
 
 same_volumes : (w u : Up) → u.volumes ≡ w.volumes → KeepsNeeded w u
 same_volumes w u e v i h n = subst (λ vs. has (Rattle.std.specs.Prelude.slice_index_or vs v no_volume).snapshots i ≡ true) (sym e) h

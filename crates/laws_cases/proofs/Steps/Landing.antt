@@ -13,16 +13,16 @@ use Rattle.sm_defs.specs.Thinned.{Thinned}
 use Rattle.sm_defs.specs.Missing.{vault_landing}
 use Rattle.sm_defs.specs.Needed.{needed}
 use Rattle.sm_defs.specs.World.{Up}
+use Rattle.sm_defs.proofs.Members.{among_map}
+use Rattle.sm_defs.proofs.Thinned.{all_kept, up_to_thins}
 use Rattle.sm_model.specs.Standing.{Stored}
 use Rattle.sm_model.specs.Sound.{SoundUp}
 use Rattle.sm_model.specs.OfTransfers.{as_reverted}
 use Rattle.sm_model.specs.Running.{Running, IsRunning}
 use Rattle.sm_model.specs.Steps.{snapshot_of, image_or_none, bases, landing, list_published}
 use Rattle.laws_transfer.specs.Costs.{tag_at}
-use Rattle.laws_transfer.proofs.Lists.{among_map}
 use Rattle.laws_transfer.proofs.Kept.{thins}
 use Rattle.laws_transfer.proofs.Landed.{same_bytes}
-use Rattle.laws_cases.proofs.Lists.Thinned.{all_kept, up_to_thins}
 use Rattle.laws_cases.proofs.Steps.Parties.{relation_stands, source_stands, destination_stands, snapshot_is, found_one}
 
 pub reverted_thins : (p : Policy) (i : Ident) (ss : List Snapshot) → Thinned (as_reverted p i ss) ss

@@ -6,11 +6,11 @@ use Rattle.sm_defs.specs.Volume.{has, no_volume}
 use Rattle.sm_defs.specs.Relationship.{Relationship, Transfer, is_mirror}
 use Rattle.sm_defs.specs.Legs.{made_ident}
 use Rattle.sm_defs.specs.World.{Up, volume_at, policy_at}
+use Rattle.sm_defs.proofs.Members.{among_get_or}
 use Rattle.sm_model.specs.Crossed.{IsReservedLeg}
 use Rattle.sm_model.specs.Sound.{SoundUp}
 use Rattle.sm_model.specs.Running.{Running, IsRunning}
 use Rattle.sm_model.specs.Due.{reserved_leg, lacks_reserved}
-use Rattle.laws_cases.proofs.Lists.Members.{among_get_or}
 use Rattle.laws_cases.proofs.Steps.Parties.{relation_stands}
 
 -- a leg that the destination has is on the source

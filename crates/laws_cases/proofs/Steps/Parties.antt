@@ -4,11 +4,13 @@ use Rattle.sm_base.specs.declared.numbers.Ident.{Ident}
 use Rattle.sm_defs.specs.Words.{Among, same_ident}
 use Rattle.sm_defs.specs.Volume.{Snapshot, no_volume, has}
 use Rattle.sm_defs.specs.World.{Up, no_relation, volume_at}
+use Rattle.sm_defs.proofs.Idents.{same_is}
+use Rattle.sm_defs.proofs.Members.{among_get_or}
+use Rattle.sm_defs.proofs.Searches.{find_is}
 use Rattle.sm_model.specs.Crossed.{Crossed}
 use Rattle.sm_model.specs.Running.{Running, IsRunning}
 use Rattle.sm_model.specs.Steps.{snapshot_of}
-use Rattle.laws_transfer.proofs.Lists.{same_is, has_from_copy}
-use Rattle.laws_cases.proofs.Lists.Members.{among_get_or, find_is}
+use Rattle.laws_transfer.proofs.Lists.{has_from_copy}
 
 pub relation_stands : (w : Up) (k : ℕ) (x : Running) → IsRunning w k x → Among w.relations x.relation
 relation_stands w k x r = subst (Among w.relations) r.stands (among_get_or w.relations k no_relation r.place)

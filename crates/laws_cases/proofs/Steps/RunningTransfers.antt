@@ -6,11 +6,11 @@ use Rattle.sm_defs.specs.Relationship.{Relationship, Transfer, is_mirror}
 use Rattle.sm_defs.specs.World.{Up, volume_at, policy_at}
 use Rattle.sm_defs.specs.Volume.{Snapshot}
 use Rattle.sm_defs.specs.Edges.{is_empty}
+use Rattle.sm_defs.proofs.Members.{filter_among}
 use Rattle.sm_model.specs.Crossed.{destination_of, with_destination_half, CrossedRelation, CrossedTransfer}
 use Rattle.sm_model.specs.Sound.{SoundUp}
 use Rattle.sm_model.specs.Running.{Running, IsRunning}
 use Rattle.sm_model.specs.Due.{has_other_family}
-use Rattle.laws_transfer.proofs.Lists.{filter_among}
 use Rattle.laws_cases.proofs.Needed.Leaving.{same_member}
 use Rattle.laws_cases.proofs.Steps.Parties.{relation_stands}
 

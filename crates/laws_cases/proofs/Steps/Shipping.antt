@@ -10,11 +10,10 @@ use Rattle.sm_model.specs.LegsFit.{InWindow}
 use Rattle.sm_model.specs.Running.{Running}
 use Rattle.sm_model.specs.Steps.{may_ship, all_landed, at_checkpoint}
 use Rattle.sm_model.specs.Choice.{shippable}
-use Rattle.laws_transfer.proofs.Lists.{stands_among, filter_among}
-use Rattle.laws_transfer.proofs.Asc.{among_each}
-use Rattle.laws_transfer.proofs.Landed.{order, to_numbers, below_numbers}
 use Rattle.laws_cases.proofs.Needed.Needs.{within_or_beyond}
 use Rattle.sm_defs.specs.Progress.{prefix_from, landed_prefix}
+use Rattle.sm_defs.proofs.Members.{among_each, filter_among, stands_among}
+use Rattle.sm_defs.proofs.Numbers.{below_numbers, order, to_numbers}
 
 -- ---- numbers
 
