@@ -189,7 +189,7 @@ of_turn : (w : Up) (r : Found Relationship) (q : Relationship) → SoundUp w →
 of_turn w r q s a (quiesces flag) = turned_same w r (quiesced_as flag r.item) s a (same_ends refl refl refl refl) refl refl refl
     (λ u e. (u, e, (refl, refl, (s.crossed.transfers r.item u a.among e).legs_differ, λ i m. m))) (inl refl)
 of_turn w r q s a (resumes t e dp) = turned_on w r t (resumed t) s a e refl refl refl
-of_turn w r q s a (ends t e) = turned_same w r (without_transfer r.item) s a (same_ends refl refl refl refl) refl refl refl (no_transfer r.item (without_transfer r.item) refl) (inr refl)
+of_turn w r q s a (ends t e n) = turned_same w r (without_transfer r.item) s a (same_ends refl refl refl refl) refl refl refl (no_transfer r.item (without_transfer r.item) refl) (inr refl)
 of_turn w r q s a (ends_settled t i later e l h) = turned_settled w r (without_transfer (settled r.item t i later)) t i later s a e l h (same_ends refl refl refl refl) refl refl refl
     (no_transfer r.item (without_transfer (settled r.item t i later)) refl) (inr refl)
 of_turn w r q s a (halts t i later e l h) = turned_on w r t (halted t) s a e refl refl refl

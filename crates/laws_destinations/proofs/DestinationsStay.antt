@@ -7,23 +7,22 @@ use Rattle.std.proofs.lemmas.Option.{same_Some}
 use Rattle.sm_base.specs.declared.numbers.Ident.{Ident}
 use Rattle.sm_base.specs.declared.numbers.Kind.TheVariants.{Rw, Dp}
 use Rattle.sm_model.specs.declared.event.Event.{Event}
-use Rattle.sm_model.specs.declared.event.Event.TheVariants as events
-use Rattle.sm_defs.specs.Classes.{class_of}
 use Rattle.sm_defs.specs.Words.{Among, KeysDiffer, same_ident, up_to}
 use Rattle.sm_defs.specs.Thinned.{Thinned}
 use Rattle.sm_defs.specs.Volume.{Volume, Snapshot, is_rw, ident_of, has, no_volume, without}
 use Rattle.sm_defs.specs.Relationship.{Relationship, Transfer, is_mirror, is_resync, legs_of}
 use Rattle.sm_defs.specs.Needed.{needed}
+use Rattle.sm_defs.specs.Classes.{class_of}
 use Rattle.sm_defs.specs.Retention.{retained}
 use Rattle.sm_defs.specs.World.{Up, volume_at, with_volume, with_relation}
 use Rattle.sm_model.specs.World.{Deed}
-use Rattle.sm_model.specs.Answers.{Reached, Told}
+use Rattle.sm_model.specs.Answers.{Reached}
 use Rattle.sm_model.specs.Answer.{answer}
 use Rattle.sm_model.specs.OfTransfers.{with_transfer, without_transfer, as_reverted}
 use Rattle.sm_model.specs.Running.{Running, IsRunning}
 use Rattle.sm_model.specs.Steps.{Effect, with_destination, reverted, snapshot_of, arrived, list_published, published}
 use Rattle.sm_model.specs.Due.{StepKind, IsEffect, IsStep, by_transfer, by_tidy, is_reverting, settled_relation, goes}
-use Rattle.sm_model.specs.LegalRun.{IsDeed}
+use Rattle.sm_model.specs.LegalRun.{IsDeed, IsStepDeed}
 use Rattle.sm_model.specs.Opened.{opened, rejoined, restarted}
 use Rattle.sm_model.specs.Standing.{EachVolume}
 use Rattle.sm_model.specs.Crossed.{destination_of, with_destination_half}
@@ -36,11 +35,7 @@ use Rattle.laws_cases.proofs.Answers.Walk.{going}
 use Rattle.laws_cases.proofs.Lists.Members.{among_get_or}
 use Rattle.laws_cases.proofs.Needed.Needs.{mapped_at}
 use Rattle.laws_cases.proofs.Lists.Thinned.{filter_thins, thinned_among}
-use Rattle.laws_cases.proofs.Answers.Changes as answers
-use Rattle.laws_cases.proofs.Answers.Changes.{Is, IsChange, IsAnswer}
 use Rattle.laws_cases.proofs.Answers.Plainly.{rw_from, not_both}
-use Rattle.laws_cases.proofs.Answers.OfAnswer as all_answers
-use Rattle.laws_cases.proofs.Answers.Deeds.{of_done, from_answer, done_gives}
 use Rattle.laws_cases.proofs.Needed.Leaving.{same_member}
 use Rattle.laws_cases.proofs.Lists.Frames.{each_set, each_push, each_mapped}
 use Rattle.laws_copies.proofs.Tags.{stored_from, reopened_from, thinned_from}
@@ -52,6 +47,8 @@ use Rattle.laws_copies.proofs.StepTags.{published_among, dp_there}
 use Rattle.laws_destinations.proofs.Bases as bases
 use Rattle.laws_destinations.proofs.Bases.{Shows, AllShow, shows_same, lacked_first, settled_shown, bases_set, writable_bases, relation_bases}
 use Rattle.laws_copies.proofs.RulesKeep.{vault_keeps_leg}
+use Rattle.laws_cases.proofs.Moves.Moves.{IsMove, nothing, clock, new_policy, rule, creates, writes, drops, points, breaks, snaps, aside, relates, turns, begins, halves}
+use Rattle.laws_cases.proofs.Moves.OfMoves.{answer_moves, deed_moves}
 use Rattle.sm_defs.specs.Operations as operations
 
 abbrev pub StandsIfReadOnly : Volume → Type 0
@@ -61,28 +58,28 @@ StandsIfReadOnly v = v.kind ≡ Dp → StandsAtSnapshot v
 writable_set : (w : Up) (i : ℕ) (v : Volume) → v.kind ≡ Rw → EachVolume StandsIfReadOnly w → EachVolume StandsIfReadOnly (with_volume w i v)
 writable_set w i v e h = each_set StandsIfReadOnly w i v h (λ d. absurd (not_both v.kind e d))
 
-of_change : (w u : Up) (ev : Event) → EachVolume StandsIfReadOnly w → IsChange w ev u → EachVolume StandsIfReadOnly u
-of_change w u ev h (answers.elsewhere other e f g j) = λ v m. h v (subst (λ vs. Among vs v) e m)
-of_change w u ev h (answers.creates path disk kind logical physical) = each_push StandsIfReadOnly w.volumes _ h
+of_move : (w u : Up) → EachVolume StandsIfReadOnly w → IsMove w u → EachVolume StandsIfReadOnly u
+of_move w u h (aside nothing) = h
+of_move w u h (aside (clock time)) = h
+of_move w u h (aside (new_policy p)) = h
+of_move w u h (aside (rule p a r)) = h
+of_move w u h (aside (creates path disk kind logical physical)) = each_push StandsIfReadOnly w.volumes _ h
     (λ d. record { blank = λ _. new_stored path disk kind (length w.volumes) logical physical; still = λ n. absurd (n refl); at = λ n. absurd (n refl) })
-of_change w u ev h (answers.writes v a block fill) = writable_set w v.at _ a.is_rw h
-of_change w u ev h (answers.drops path name so v is a s named free) = writable_set w v.at _ a.is_rw h
-of_change w u ev h (answers.points v a) = writable_set w v.at _ a.is_rw h
-of_change w u ev h (answers.breaks v a) = writable_set w v.at _ refl h
-of_change w u ev h (answers.relates s d p) = h
-of_change w u ev h (answers.changes r a q f) = h
-of_change w u ev h (answers.halves r a q f) = h
-of_change w u ev h (answers.starts r a q f) = h
+of_move w u h (aside (writes v a block fill)) = writable_set w v.at _ a.is_rw h
+of_move w u h (aside (drops v a s free)) = writable_set w v.at _ a.is_rw h
+of_move w u h (aside (points v a)) = writable_set w v.at _ a.is_rw h
+of_move w u h (aside (breaks v a dp some r is none)) = writable_set w v.at _ refl h
+of_move w u h (aside (snaps v a p is name label)) = writable_set w v.at _ a.is_rw h
+of_move w u h (relates a b p f) = h
+of_move w u h (turns r a half q f) = h
+of_move w u h (begins r a half q f) = h
+of_move w u h (halves r a q f) = h
 
-pub of_answer : (w u : Up) (ev : Event) (t : Told) → EachVolume StandsIfReadOnly w → IsAnswer w ev t u → EachVolume StandsIfReadOnly u
-of_answer w u ev t h (answers.plain p c) = of_change w u ev h c
-of_answer w u ev t h (answers.snaps v a p is path name label so) = writable_set w v.at _ a.is_rw h
+moved : (w u : Up) → SoundUp w → IsMove w u → DestinationsStand u
+moved w u s m = record { volumes = of_move w u s.destinations_stand.volumes m; bases = bases.of_move w u s m }
 
 pub answers_keep_destinations : (w : Up) (e : Event) (reached : Reached) → SoundUp w → answer w e ≡ Some (Ok reached) → DestinationsStand reached.world
-answers_keep_destinations w e reached s i = record {
-  volumes = of_answer w reached.world e reached.reply s.destinations_stand.volumes (from_answer (Is w e) (answer w e) reached (all_answers.of_answer w e) i);
-  bases = from_answer (λ r. AllShow r.world) (answer w e) reached (bases.of_answer w e s) i;
-}
+answers_keep_destinations w e reached s i = moved w reached.world s (answer_moves w e reached i)
 
 -- ---- steps
 
@@ -112,8 +109,8 @@ module _ (w : Up) (k : ℕ) (x : Running) (s : SoundUp w) (r : IsRunning w k x) 
   stands : StandsIfReadOnly x.destination
   stands = s.destinations_stand.volumes x.destination there
 
-  begins : TransferStands x.destination x.relation x.transfer
-  begins = subst (λ v. TransferStands v x.relation x.transfer) at_x (s.transfers_stand x.relation x.transfer here r.transfer)
+  standing : TransferStands x.destination x.relation x.transfer
+  standing = subst (λ v. TransferStands v x.relation x.transfer) at_x (s.transfers_stand x.relation x.transfer here r.transfer)
 
   differ : KeysDiffer ident_of x.destination.snapshots
   differ = (s.tags_fit x.destination there).idents_differ
@@ -121,8 +118,8 @@ module _ (w : Up) (k : ℕ) (x : Running) (s : SoundUp w) (r : IsRunning w k x) 
   shown : Shows x.destination x.relation
   shown = subst (λ v. Shows v x.relation) at_x (s.destinations_stand.bases x.relation here)
 
-  halves : (x.relation.source_half ≡ true) × (x.relation.destination_half ≡ true)
-  halves = let t = s.crossed.transfers x.relation x.transfer here r.transfer in (t.at_source, t.at_destination)
+  both_halves : (x.relation.source_half ≡ true) × (x.relation.destination_half ≡ true)
+  both_halves = let t = s.crossed.transfers x.relation x.transfer here r.transfer in (t.at_source, t.at_destination)
 
   legs : legs_of x.relation.transfer ≡ x.transfer.legs
   legs = ap legs_of r.transfer
@@ -130,7 +127,7 @@ module _ (w : Up) (k : ℕ) (x : Running) (s : SoundUp w) (r : IsRunning w k x) 
   -- no other relationship with its destination half ends there
   only_here : (q : Relationship) → Among w.relations q → q.destination_half ≡ true → q.destination ≡ x.relation.destination → q ≡ x.relation
   only_here q m h d = same_member destination_of (with_destination_half w.relations) q x.relation s.crossed.destinations_differ
-      (filter_among (λ p. p.destination_half) w.relations q m h) (filter_among (λ p. p.destination_half) w.relations x.relation here halves.1) d
+      (filter_among (λ p. p.destination_half) w.relations q m h) (filter_among (λ p. p.destination_half) w.relations x.relation here both_halves.1) d
 
   -- a changed destination that shows its own relationship shows all
   at_destination : (u : Volume) → StandsIfReadOnly u → Shows u x.relation → DestinationsStand (with_destination w x u)
@@ -154,9 +151,9 @@ module _ (w : Up) (k : ℕ) (x : Running) (s : SoundUp w) (r : IsRunning w k x) 
   finishes e = at_relation (without_transfer x.relation) refl (shows_same x.destination x.relation (without_transfer x.relation) (λ h. h) refl (λ b. ap (newest_published x.destination.snapshots b) (sym (legs ∙ e))) shown)
 
   settles : (i : Ident) (later : List Ident) → x.transfer.legs ≡ i ∷ later → has x.destination.snapshots i ≡ true → DestinationsStand (with_relation w k (settled_relation x i later))
-  settles i [] e h = at_relation (settled_relation x i []) refl (settled_shown x.destination x.relation (settled_relation x i []) x.transfer i [] stands begins differ r.transfer e h (λ y. y) refl (λ j m. absurd m) shown)
-  settles i (j ∷ is) e h = at_relation (settled_relation x i (j ∷ is)) refl (settled_shown x.destination x.relation (settled_relation x i (j ∷ is)) x.transfer i (j ∷ is) stands begins differ r.transfer e h (λ y. y) refl
-      (λ n m. begins.ahead n (subst (λ ks. Among (later ks) n) (sym e) m)) shown)
+  settles i [] e h = at_relation (settled_relation x i []) refl (settled_shown x.destination x.relation (settled_relation x i []) x.transfer i [] stands standing differ r.transfer e h (λ y. y) refl (λ j m. absurd m) shown)
+  settles i (j ∷ is) e h = at_relation (settled_relation x i (j ∷ is)) refl (settled_shown x.destination x.relation (settled_relation x i (j ∷ is)) x.transfer i (j ∷ is) stands standing differ r.transfer e h (λ y. y) refl
+      (λ n m. standing.ahead n (subst (λ ks. Among (later ks) n) (sym e) m)) shown)
 
   -- ---- Revert
 
@@ -185,7 +182,7 @@ module _ (w : Up) (k : ℕ) (x : Running) (s : SoundUp w) (r : IsRunning w k x) 
       gone : (b : Ident) (j : Ident) → Among (legs_of x.relation.transfer) j → has (as_reverted x.policy base.ident x.destination.snapshots) j ≡ false
       gone b j m = false_from_ne_true _ (λ h. let (t, n, q) = copy_from_has (as_reverted x.policy base.ident x.destination.snapshots) j h in
           true≢false (sym (has_from_copy x.destination.snapshots j (t, thinned_among (reverted_thins x.policy base.ident x.destination.snapshots) t n, q)) ∙
-          ((begins.writable rw_now).3 j (subst (λ is. Among is j) legs m))))
+          ((standing.writable rw_now).3 j (subst (λ is. Among is j) legs m))))
 
   -- ---- with the first leg ahead
 
@@ -195,23 +192,23 @@ module _ (w : Up) (k : ℕ) (x : Running) (s : SoundUp w) (r : IsRunning w k x) 
 
     -- of a destination without a base nothing stands there
     none_yet : x.relation.base ≡ None → (t : Snapshot) → ¬ (Among x.destination.snapshots t)
-    none_yet e t m = true≢false (sym (has_from_copy x.destination.snapshots a.i (t, m, subst (λ is. IsFirst is t.ident) a.legs (begins.first_time e t m))) ∙ a.lacks)
+    none_yet e t m = true≢false (sym (has_from_copy x.destination.snapshots a.i (t, m, subst (λ is. IsFirst is t.ident) a.legs (standing.first_time e t m))) ∙ a.lacks)
 
     -- ---- Prune
 
     stays_base : (b : Ident) (t : Snapshot) → x.relation.base ≡ Some b → Among x.destination.snapshots t → t.ident ≡ b → Among (without (goes w x) x.destination).snapshots t
     stays_base b t e m f = filter_among (λ u. not (goes w x u)) x.destination.snapshots t m
-        (not_from_false (goes w x t) (unneeded (needed w x.relation.destination t.ident) _ (subst (λ j. needed w x.relation.destination j ≡ true) (sym f) (base_at_destination w x.relation b here e halves.1))))
+        (not_from_false (goes w x t) (unneeded (needed w x.relation.destination t.ident) _ (subst (λ j. needed w x.relation.destination j ≡ true) (sym f) (base_at_destination w x.relation b here e both_halves.1))))
       where
         unneeded : (n c : Bool) → n ≡ true → (not n && c) ≡ false
         unneeded true c h = refl
         unneeded false c h = absurd (cc)
 
     has_base : (b : Ident) → x.relation.base ≡ Some b → (t : Snapshot) × Among x.destination.snapshots t × (t.ident ≡ b)
-    has_base b e = copy_from_has x.destination.snapshots b (subst (λ v. has v.snapshots b ≡ true) at_x ((s.crossed.relations x.relation here).base_at_destination b e halves.1))
+    has_base b e = copy_from_has x.destination.snapshots b (subst (λ v. has v.snapshots b ≡ true) at_x ((s.crossed.relations x.relation here).base_at_destination b e both_halves.1))
 
     base_shown : (b : Ident) (t : Snapshot) → x.relation.base ≡ Some b → Among x.destination.snapshots t → t.ident ≡ b → x.destination.active ≡ t.image
-    base_shown b t e m f = shown b t halves.1 read_only e m (f ∙ sym (ap (newest_published x.destination.snapshots b) (legs ∙ a.legs) ∙ ap (λ c. cond c a.i b) a.lacks))
+    base_shown b t e m f = shown b t both_halves.1 read_only e m (f ∙ sym (ap (newest_published x.destination.snapshots b) (legs ∙ a.legs) ∙ ap (λ c. cond c a.i b) a.lacks))
 
     pruned_stands : StandsAtSnapshot (without (goes w x) x.destination)
     pruned_stands = go x.relation.base refl
@@ -310,12 +307,11 @@ of_step w e s (by_transfer k x kind r d i) = of_effect w k x kind e s r (kind_is
 of_step w e s (by_tidy n d i) = subst By (sym i) (at_writable w n _ s (rw_from (volume_at w n).kind (and_parts (nat_lt n (length w.volumes)) (is_rw (volume_at w n).kind) (and_parts _ _ d).0).1))
 
 pub deeds_keep_destinations : (e : Event) (d : Deed) → SoundUp d.old → IsDeed e d → DestinationsStand d.new
-unfolding IsDeed
-deeds_keep_destinations (events.Work shown) d s i = of_step d.old _ s i
-deeds_keep_destinations e d s i = let a = of_done e (answer d.old e) d (all_answers.of_answer d.old e) i in record {
-  volumes = of_answer d.old d.new e a.tells s.destinations_stand.volumes a.is;
-  bases = done_gives AllShow (answer d.old e) d (bases.of_answer d.old e s) i;
-}
+deeds_keep_destinations e d s i = go (deed_moves e d i)
+  where
+    go : IsStepDeed d ⊎ IsMove d.old d.new → DestinationsStand d.new
+    go (inl t) = of_step d.old _ s t
+    go (inr m) = moved d.old d.new s m
 
 -- ---- restarts
 

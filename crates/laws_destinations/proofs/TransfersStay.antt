@@ -1,36 +1,29 @@
 -- Standing transfers still stand after each event, each step and each restart.
 use Rattle.std.proofs.Common.{◌≡◌, ◌≢◌, ◌⊎◌, ◌*◌, ◌+◌, ℕ, Bool, true, false, not, cond, List, [], ◌∷◌, ◌++◌, length, Option, Some, None, ap, sym, subst, ◌∙◌, refl, inl, inr, arith, true≢false}
-use Rattle.std.specs.Prelude.{slice_set, is_some}
-use Rattle.std.proofs.lemmas.Bool.{false_from_ne_true, not-false}
+use Rattle.std.proofs.lemmas.Bool.{false_from_ne_true}
 use Rattle.std.proofs.lemmas.Option.{same_Some}
-use Rattle.sm_base.specs.declared.numbers.DiskNo.{DiskNo}
 use Rattle.sm_base.specs.declared.numbers.Ident.{Ident}
-use Rattle.sm_base.specs.declared.numbers.Kind.{Kind}
 use Rattle.sm_base.specs.declared.numbers.Kind.TheVariants.{Rw, Dp}
 use Rattle.sm_base.specs.declared.numbers.TransferKind.{TransferKind}
-use Rattle.sm_base.specs.declared.numbers.TransferKind.TheVariants.{Initialize, Update, Resync}
+use Rattle.sm_base.specs.declared.numbers.TransferKind.TheVariants.{Resync}
 use Rattle.sm_base.specs.declared.refusal.Reason.{Reason}
 use Rattle.sm_defs.specs.Words.{Among, KeysDiffer, Found, found, same_ident, up_to, after}
-use Rattle.sm_defs.specs.Edges.{is_empty}
 use Rattle.sm_defs.specs.Common.{common}
 use Rattle.sm_defs.specs.Volume.{Volume, Snapshot, ident_of, has, numbers, no_volume, new_volume, without}
 use Rattle.sm_defs.specs.Relationship.{Relationship, Transfer, is_mirror}
 use Rattle.sm_defs.specs.Legs.{made_ident}
 use Rattle.sm_defs.specs.World.{Up, volume_at, policy_at, with_volume, with_relation}
 use Rattle.sm_model.specs.declared.event.Event.{Event}
-use Rattle.sm_model.specs.declared.event.Event.TheVariants as events
 use Rattle.sm_model.specs.World.{Deed}
-use Rattle.sm_model.specs.Answers.{Reached, Target, goes_to}
-use Rattle.sm_model.specs.Answer.{answer}
+use Rattle.sm_model.specs.Answers.{goes_to}
 use Rattle.sm_model.specs.OfVolumes as volumes
 use Rattle.sm_defs.specs.Operations as operations
 use Rattle.sm_model.specs.OfRelations as relations
-use Rattle.sm_model.specs.OfRelations.{has_a_half}
 use Rattle.sm_model.specs.OfTransfers as transfers
 use Rattle.sm_model.specs.Running.{Running, IsRunning}
 use Rattle.sm_model.specs.Steps.{Effect, with_destination, interrupted, reverted, prepared_snapshot, arrived, list_published, published}
 use Rattle.sm_model.specs.Due.{StepKind, IsEffect, IsStep, by_transfer, by_tidy, reserved_leg, settled_relation, goes, insert_landed, is_tidied}
-use Rattle.sm_model.specs.LegalRun.{IsDeed}
+use Rattle.sm_model.specs.LegalRun.{IsDeed, IsStepDeed}
 use Rattle.sm_model.specs.Opened.{opened, rejoined, restarted}
 use Rattle.sm_model.specs.Crossed.{IsReservedLeg}
 use Rattle.sm_model.specs.TransfersStand.{later, IsFirst, TransferStands, TransfersStand}
@@ -39,16 +32,13 @@ use Rattle.laws_transfer.specs.Dropping.{IsNewestCommon}
 use Rattle.laws_transfer.specs.Sending.{IsNewIdent}
 use Rattle.laws_transfer.proofs.Asc.{among_each}
 use Rattle.laws_transfer.proofs.Kept.{common_newest}
-use Rattle.laws_transfer.proofs.Lists.{among_append, among_filter, among_right, from_map, copy_from_has, has_from_copy, same_is, is_same}
-use Rattle.laws_cases.proofs.Answers.Walk.{OfOk, past, with_found, with_ok, with_held, with_target, whether_so, now, going, passing, passed}
-use Rattle.laws_cases.proofs.Lists.Members.{among_set, among_get_or, set_at}
+use Rattle.laws_transfer.proofs.Lists.{among_append, among_right, from_map, copy_from_has, has_from_copy, same_is, is_same}
+use Rattle.laws_cases.proofs.Answers.Walk.{going}
+use Rattle.laws_cases.proofs.Lists.Members.{among_get_or, set_at}
 use Rattle.laws_cases.proofs.Needed.Needs.{set_cases, push_within, mapped_at, split_at}
 use Rattle.laws_cases.proofs.Lists.Thinned.{filter_thins, thinned_among}
-use Rattle.laws_cases.proofs.Answers.Changes.{RelationAt}
-use Rattle.laws_cases.proofs.Answers.Plainly.{volume_at_place, writable_at_place, relation_at_place, not_both, dp_from, rw_if}
-use Rattle.laws_cases.proofs.Answers.OfVolumeEvents.{named_at_place}
-use Rattle.laws_cases.proofs.Answers.OfRelationEvents.{released_at, filled, goes_there, goes_half, at_target, none_empty, some_base}
-use Rattle.laws_cases.proofs.Answers.OfAnswer.{OfAnswer}
+use Rattle.laws_cases.proofs.Answers.Plainly.{relation_at_place, not_both, rw_if}
+use Rattle.laws_cases.proofs.Answers.OfRelationEvents.{goes_there, goes_half}
 use Rattle.laws_copies.proofs.Fresh.{leg_not_clients}
 use Rattle.laws_cases.proofs.Steps.Parties.{relation_stands, snapshot_is}
 use Rattle.laws_cases.proofs.Steps.DueCases.{Ahead, IsDue, due_revert, due_finish, due_settle, due_prepare, due_prune, due_publish, due_checkpoint, due_ship, kind_is_due, no_reason}
@@ -58,9 +48,11 @@ use Rattle.laws_cases.proofs.Lists.TransferNumbers.{same_relation}
 use Rattle.laws_copies.proofs.Brings.{reserved_fresh}
 use Rattle.laws_copies.proofs.StepTags.{published_among, dp_there}
 use Rattle.laws_destinations.proofs.Bases.{new_or_made, new_lacked}
-use Rattle.laws_cases.proofs.Answers.Deeds.{done_gives}
 use Rattle.laws_copies.proofs.Numbered.{made_lacked}
 use Rattle.laws_cases.proofs.Steps.RunningTransfers.{one_destination}
+use Rattle.laws_cases.proofs.Moves.Moves.{Aside, Turn, Start, Halve, IsMove, nothing, clock, new_policy, rule, creates, writes, drops, points, breaks, snaps, quiesces, resumes, ends, ends_settled, halts, halts_settled, starts, resyncs, deletes, releases, aside, relates, turns, begins, halves}
+use Rattle.laws_cases.proofs.Moves.OfMoves.{deed_moves}
+use Rattle.laws_cases.proofs.Lists.MoveFrames.{OfOne, each_set, each_push, each_halved, none_of, one_of}
 use Rattle.sm_defs.specs.Progress as progress
 
 -- ---- a transfer and its destination
@@ -142,80 +134,36 @@ transfers_more : (w : Up) (i : ℕ) (v u : Volume) (f : Snapshot) → volume_at 
     ((r : Relationship) (t : Transfer) → Among w.relations r → r.transfer ≡ Some t → r.destination ≡ i → (j : Ident) → Among t.legs j → ¬ (j ≡ f.ident)) → TransfersStand (with_volume w i u)
 transfers_more w i v u f a h k e n = transfers_set w i u h (λ r t m g d. stands_more v u f r t k e (n r t m g d) (subst (λ x. TransferStands x r t) (ap (volume_at w) d ∙ a) (h r t m g)))
 
-transfers_relation : (w : Up) (k : ℕ) (q : Relationship) → TransfersStand w → ((t : Transfer) → q.transfer ≡ Some t → TransferStands (volume_at w q.destination) q t) → TransfersStand (with_relation w k q)
-transfers_relation w k q h f r t m e = go (among_set w.relations k q r m)
-  where
-    go : (r ≡ q) ⊎ Among w.relations r → TransferStands (volume_at w r.destination) r t
-    go (inl i) = subst (λ p. TransferStands (volume_at w p.destination) p t) (sym i) (f t (ap (λ y. y.transfer) (sym i) ∙ e))
-    go (inr n) = h r t n e
+abbrev StandsIn : Up → Relationship → Transfer → Type 0
+StandsIn w r t = TransferStands (volume_at w r.destination) r t
 
--- the one transfer that a relationship has
-only : (v : Volume) (q : Relationship) (u : Transfer) → q.transfer ≡ Some u → TransferStands v q u → (t : Transfer) → q.transfer ≡ Some t → TransferStands v q t
-only v q u e ts t f = subst (TransferStands v q) (same_Some u t (sym e ∙ f)) ts
+transfers_relation : (w : Up) (k : ℕ) (q : Relationship) → TransfersStand w → OfOne (StandsIn w) q → TransfersStand (with_relation w k q)
+transfers_relation w k q h f = each_set (StandsIn w) w.relations k q h f
 
 -- the same transfer, base and destination
 transfers_same : (w : Up) (r q : Relationship) → SoundUp w → Among w.relations r → q.destination ≡ r.destination → q.base ≡ r.base → q.transfer ≡ r.transfer → (t : Transfer) → q.transfer ≡ Some t → TransferStands (volume_at w q.destination) q t
 transfers_same w r q s m d b f t e = subst (λ i. TransferStands (volume_at w i) q t) (sym d) (stands_on (volume_at w r.destination) r q t t refl b refl (λ x y. (x, y)) (s.transfers_stand r t m (sym f ∙ e)).unpruned (s.transfers_stand r t m (sym f ∙ e)))
 
--- ---- events
+-- ---- volumes and policies
 
-abbrev Stand : Reached → Type 0
-Stand r = TransfersStand r.world
+-- nothing is under way to a volume that is broken off
+none_here : (w : Up) (i : ℕ) (r : Found Relationship) → SoundUp w → found (goes_to i) w.relations ≡ Some r → r.item.transfer ≡ None → (q : Relationship) (t : Transfer) → Among w.relations q → q.transfer ≡ Some t → q.destination ≡ i → ⊥
+none_here w i r s is none q t m e d =
+    let same : q ≡ r.item = one_destination w q r.item s m (relation_at_place w _ r is).among (s.crossed.transfers q t m e).at_destination (goes_half w i r is) (d ∙ sym (goes_there w i r is)) in
+    let g : None ≡ Some t = sym none ∙ (ap (λ y. y.transfer) (sym same) ∙ e) in cc
 
-create_volume : (w : Up) (path : List ℕ) (disk : DiskNo) (kind : Kind) (l p : ℕ) → SoundUp w → OfOk Stand (volumes.create_volume w path disk kind l p)
-create_volume w path disk kind l p s = past _ _ _ _ (λ _. past _ _ _ _ (λ _. with_found _ _ _ _ (λ len _. past _ _ _ _ (λ _. past _ _ _ _ (λ _. past _ _ _ _ (λ _. now Stand _
-    (λ r t m e. subst (λ v. TransferStands v r t) (sym (push_within w.volumes (new_volume path disk.0 kind (length w.volumes) l p) no_volume r.destination (s.crossed.relations r m).destination)) (s.transfers_stand r t m e))))))))
-
-write : (w : Up) (path : List ℕ) (block fill : ℕ) → SoundUp w → OfOk Stand (volumes.write w path block fill)
-write w path block fill s = with_found _ _ _ _ (λ v is. past _ _ _ _ (λ _. past _ _ _ _ (λ _. past _ _ _ _ (λ _. now Stand _
-    (transfers_fewer w v.at v.item _ (volume_at_place w _ v is).at s.transfers_stand (λ e. e) (λ t m. m))))))
-
-snap : (w : Up) (path name : List ℕ) (label : Option (List ℕ)) → SoundUp w → OfOk Stand (volumes.snap w path name label)
-snap w path name label s = with_found _ _ _ _ (λ v is. past _ _ _ _ (λ a. past _ _ _ _ (λ _. past _ _ _ _ (λ _. let b = writable_at_place w _ v is a in now Stand _
-    (transfers_more w v.at v.item _ (volumes.client_snapshot v.at w.clock v.item name label) b.at s.transfers_stand b.is_rw refl (λ r t m e _. leg_not_clients w _ v s is r t m e))))))
-
-unsnap : (w : Up) (path name : List ℕ) → SoundUp w → OfOk Stand (volumes.unsnap w path name)
-unsnap w path name s = with_ok _ _ _ (λ v is. with_ok _ _ _ (λ t _. past _ _ _ _ (λ _. with_held _ _ _ (λ _. now Stand _
-    (transfers_fewer w v.at v.item _ (named_at_place w path v is).at s.transfers_stand (λ e. e) (thinned_among (filter_thins _ v.item.snapshots)))))))
-
-cp : (w : Up) (path : List ℕ) → SoundUp w → OfOk Stand (volumes.cp w path)
-cp w path s = with_found _ _ _ _ (λ v is. past _ _ _ _ (λ _. now Stand _ (transfers_fewer w v.at v.item _ (volume_at_place w _ v is).at s.transfers_stand (λ e. e) (λ t m. m))))
-
-relate : (w : Up) (s d p : List ℕ) → SoundUp w → OfOk Stand (relations.relate w s d p)
-relate w s d p h = with_found _ _ _ _ (λ s _. with_found _ _ _ _ (λ d _. with_found _ _ _ _ (λ p _. with_held _ _ _ (λ _. past _ _ _ _ (λ _. past _ _ _ _ (λ _. past _ _ _ _ (λ _. now Stand _ (pushed s.at d.at p.at))))))))
-  where
-    pushed : (s d p : ℕ) → TransfersStand (relations.with_new_relation w s d p)
-    pushed s d p r t m e = go (among_append w.relations (relations.new_relation w.next_relation s d p ∷ []) r m)
-      where
-        go : Among w.relations r ⊎ Among (relations.new_relation w.next_relation s d p ∷ []) r → TransferStands (volume_at w r.destination) r t
-        go (inl n) = h.transfers_stand r t n e
-        go (inr (inl f)) = absurd (let g : None ≡ Some t = sym (ap (λ y. y.transfer) f) ∙ e in cc)
-        go (inr (inr n)) = absurd n
-
-set_quiesced : (w : Up) (d : List ℕ) (flag : Bool) → SoundUp w → OfOk Stand (relations.set_quiesced w d flag)
-set_quiesced w d flag s = with_target _ _ _ _ (λ t _ is. let a = relation_at_place w _ t.relation is in now Stand _
-    (transfers_relation w t.relation.at (relations.quiesced_as flag t.relation.item) s.transfers_stand (transfers_same w t.relation.item (relations.quiesced_as flag t.relation.item) s a.among refl refl refl)))
-
-break_off : (w : Up) (d : List ℕ) → SoundUp w → OfOk Stand (relations.break_off w d)
-break_off w d s = with_target _ _ _ _ (λ t at is. passing _ _ _ _ _ (λ _. passing _ _ _ _ _ (λ _. passed _ _ _ _ (λ n. now Stand _
-    (transfers_set w t.destination.at _ s.transfers_stand (λ r u m e d. absurd (none_here t is n r u m e d)))))))
-  where
-    none_here : (t : Target) → found (goes_to t.destination.at) w.relations ≡ Some t.relation → is_some t.relation.item.transfer ≡ false → (r : Relationship) (u : Transfer) → Among w.relations r → r.transfer ≡ Some u → r.destination ≡ t.destination.at → ⊥
-    none_here t is n r u m e d =
-        let a = relation_at_place w _ t.relation is in let half = goes_half w t.destination.at t.relation is in
-        let same = one_destination w r t.relation.item s m a.among (s.crossed.transfers r u m e).at_destination half (d ∙ sym (goes_there w _ t.relation is)) in
-        true≢false (sym (ap is_some (sym (ap (λ y. y.transfer) same) ∙ e)) ∙ n)
-
-halves_stand : (w : Up) (k : ℕ) (q : Relationship) → TransfersStand w → ((t : Transfer) → q.transfer ≡ Some t → TransferStands (volume_at w q.destination) q t) → TransfersStand (relations.with_halves w k q)
-halves_stand w k q h f r t m e = transfers_relation w k q h f r t (among_filter has_a_half (slice_set w.relations k q) r m).0 e
-
-delete : (w : Up) (d : List ℕ) → SoundUp w → OfOk Stand (relations.delete w d)
-delete w d s = with_target _ _ _ _ (λ t _ is. passed _ _ _ _ (λ _. let a = relation_at_place w _ t.relation is in now Stand _
-    (halves_stand w t.relation.at (relations.without_destination t.relation.item) s.transfers_stand (transfers_same w t.relation.item (relations.without_destination t.relation.item) s a.among refl refl refl))))
-
-release : (w : Up) (s d : List ℕ) → SoundUp w → OfOk Stand (relations.release w s d)
-release w s d h = with_found _ _ _ _ (λ s _. with_found _ _ _ _ (λ d _. with_found _ _ _ _ (λ r is. passing _ _ _ _ _ (λ _. passed _ _ _ _ (λ _. let a = released_at w _ _ r is in now Stand _
-    (halves_stand w r.at (relations.without_source r.item) h.transfers_stand (transfers_same w r.item (relations.without_source r.item) h a.among refl refl refl)))))))
+aside_stands : (w u : Up) → SoundUp w → Aside w u → TransfersStand u
+aside_stands w u s nothing = s.transfers_stand
+aside_stands w u s (clock time) = s.transfers_stand
+aside_stands w u s (new_policy p) = s.transfers_stand
+aside_stands w u s (rule p a r) = s.transfers_stand
+aside_stands w u s (creates path disk kind logical physical) = λ r t m e. subst (λ v. TransferStands v r t)
+    (sym (push_within w.volumes (new_volume path disk kind (length w.volumes) logical physical) no_volume r.destination (s.crossed.relations r m).destination)) (s.transfers_stand r t m e)
+aside_stands w u s (writes v a block fill) = transfers_fewer w v.at v.item _ a.at s.transfers_stand (λ e. e) (λ t m. m)
+aside_stands w u s (drops v a t free) = transfers_fewer w v.at v.item _ a.at s.transfers_stand (λ e. e) (thinned_among (filter_thins _ v.item.snapshots))
+aside_stands w u s (points v a) = transfers_fewer w v.at v.item _ a.at s.transfers_stand (λ e. e) (λ t m. m)
+aside_stands w u s (breaks v a dp some r is none) = transfers_set w v.at _ s.transfers_stand (λ q t m e d. absurd (none_here w v.at r s is none q t m e d))
+aside_stands w u s (snaps v a p is name label) = transfers_more w v.at v.item _ (volumes.client_snapshot v.at w.clock v.item name label) a.at s.transfers_stand a.is_rw refl (λ r t m e _. leg_not_clients w p v s is r t m e)
 
 -- ---- transfers that start, go on or stop
 
@@ -233,71 +181,10 @@ started_stands w r kind s m k dp none some = record {
   first_time = λ e t n. absurd (none e t n);
 }
 
-start_it : (w : Up) (r : Found Relationship) (kind : TransferKind) → SoundUp w → RelationAt w r → (kind ≡ Resync → ⊥) → (volume_at w r.item.destination).kind ≡ Dp → (r.item.base ≡ None → (t : Snapshot) → ¬ (Among (volume_at w r.item.destination).snapshots t)) →
-    OfOk Stand (transfers.start_it w r.at r.item kind)
-start_it w r kind s a k dp none = with_held _ _ _ (λ _. whether_so _ _ _ _ (λ _. now Stand _ s.transfers_stand) (λ some. past _ _ _ _ (λ c. now Stand _
-    (transfers_relation w r.at (transfers.with_transfer r.item (transfers.new_transfer w.next_transfer kind (transfers.next_legs w r.item r.item.base (volume_at w r.item.destination).snapshots))) s.transfers_stand
-    (only (volume_at w r.item.destination) _ _ refl (started_stands w r.item kind s a.among k dp none (filled _ some)))))))
-
 no_landing : (n : ℕ) → n ≡ 0 → numbers 0 n ≡ []
 no_landing n e = ap (numbers 0) e
 
-resume_or_start : (w : Up) (r : Found Relationship) (kind : TransferKind) (t : Option Transfer) → SoundUp w → RelationAt w r → r.item.transfer ≡ t → (kind ≡ Resync → ⊥) → (volume_at w r.item.destination).kind ≡ Dp →
-    (r.item.transfer ≡ None → r.item.base ≡ None → (t : Snapshot) → ¬ (Among (volume_at w r.item.destination).snapshots t)) → OfOk Stand (transfers.resume_or_start w r.at r.item kind t)
-unfolding transfers.resume_or_start
-resume_or_start w r kind (Some t) s a e k dp none = now Stand _ (transfers_relation w r.at (transfers.with_transfer r.item (transfers.resumed t)) s.transfers_stand
-    (only (volume_at w r.item.destination) _ (transfers.resumed t) refl (stands_on (volume_at w r.item.destination) r.item _ t (transfers.resumed t) refl refl refl (λ x y. (x, no_landing t.checkpoint x)) (λ _. refl) (s.transfers_stand r.item t a.among e))))
-resume_or_start w r kind None s a e k dp none = start_it w r kind s a k dp (none e)
-
-initialize : (w : Up) (d : List ℕ) → SoundUp w → OfOk Stand (transfers.initialize w d)
-initialize w d s = with_target _ _ _ _ (λ t at is. passing _ _ _ _ _ (λ a. passing _ _ _ _ _ (λ b. passing _ _ _ _ _ (λ _. passed _ _ _ _ (λ _. let v = at_target w t _ at is in
-    resume_or_start w t.relation Initialize _ s (relation_at_place w _ t.relation is) refl (λ e. cc) (ap (λ y. y.kind) v ∙ dp_from t.destination.item.kind a)
-    (λ _ _ u m. none_empty t.destination.item.snapshots (not-false (is_empty t.destination.item.snapshots) b) u (subst (λ y. Among y.snapshots u) v m)))))))
-
-update : (w : Up) (d : List ℕ) → SoundUp w → OfOk Stand (transfers.update w d)
-update w d s = with_target _ _ _ _ (λ t at is. passing _ _ _ _ _ (λ a. passing _ _ _ _ _ (λ b. passing _ _ _ _ _ (λ _. passing _ _ _ _ _ (λ _. passed _ _ _ _ (λ _. let v = at_target w t _ at is in
-    resume_or_start w t.relation Update _ s (relation_at_place w _ t.relation is) refl (λ e. cc) (ap (λ y. y.kind) v ∙ dp_from t.destination.item.kind a)
-    (λ o n. absurd (some_base (is_empty t.destination.item.snapshots) t.relation.item.base t.relation.item.transfer b o n))))))))
-
 -- ---- Abort
-
-aborted : (v : Volume) (r : Relationship) (t : Transfer) (is : List Ident) (ss : List Snapshot) → r.transfer ≡ Some t → t.legs ≡ is → TransferStands v r t →
-    TransferStands v (transfers.with_transfer (progress.settled_if_there ss r t is) (transfers.halted (transfers.transfer_or t (progress.settled_if_there ss r t is).transfer)))
-    (transfers.halted (transfers.transfer_or t (progress.settled_if_there ss r t is).transfer))
-aborted v r t is ss e l ts = go is l
-  where
-    same : TransferStands v (transfers.with_transfer r (transfers.halted (transfers.transfer_or t r.transfer))) (transfers.halted (transfers.transfer_or t r.transfer))
-    same = subst (λ o. TransferStands v (transfers.with_transfer r (transfers.halted (transfers.transfer_or t o))) (transfers.halted (transfers.transfer_or t o))) (sym e)
-        (stands_on v r (transfers.with_transfer r (transfers.halted t)) t (transfers.halted t) refl refl refl (λ x y. (ap progress.landed_prefix y, ap (λ ks. numbers 0 (progress.landed_prefix ks)) y)) (λ _. refl) ts)
-
-    go : (is : List Ident) → t.legs ≡ is → TransferStands v (transfers.with_transfer (progress.settled_if_there ss r t is) (transfers.halted (transfers.transfer_or t (progress.settled_if_there ss r t is).transfer)))
-        (transfers.halted (transfers.transfer_or t (progress.settled_if_there ss r t is).transfer))
-    go [] l = same
-    go (i ∷ is) l = by (has ss i)
-      where
-        by : (b : Bool) → TransferStands v (transfers.with_transfer (cond b (progress.settled r t i is) r) (transfers.halted (transfers.transfer_or t (cond b (progress.settled r t i is) r).transfer)))
-            (transfers.halted (transfers.transfer_or t (cond b (progress.settled r t i is) r).transfer))
-        by true = stands_settled v r t _ _ i is l refl refl refl refl refl (λ _. refl) ts
-        by false = same
-
-same_destination : (ss : List Snapshot) (r : Relationship) (t : Transfer) (is : List Ident) → (progress.settled_if_there ss r t is).destination ≡ r.destination
-same_destination ss r t [] = refl
-same_destination ss r t (i ∷ is) = go (has ss i)
-  where
-    go : (b : Bool) → (cond b (progress.settled r t i is) r).destination ≡ r.destination
-    go true = refl
-    go false = refl
-
-abort : (w : Up) (d : List ℕ) (hard : Bool) → SoundUp w → OfOk Stand (transfers.abort w d hard)
-abort w d hard s = with_target _ _ _ _ (λ d _ is. with_found _ _ _ _ (λ t e. passed _ _ _ _ (λ _.
-    let a = relation_at_place w _ d.relation is in
-    let q : Relationship = progress.settled_if_there d.destination.item.snapshots d.relation.item t t.legs in
-    let to = same_destination d.destination.item.snapshots d.relation.item t t.legs in
-    let h : Transfer = transfers.halted (transfers.transfer_or t q.transfer) in
-    whether_so _ _ _ _ (λ _. now Stand _ (transfers_relation w d.relation.at (transfers.without_transfer q) s.transfers_stand (λ u f. absurd (cc))))
-    (λ _. now Stand _ (transfers_relation w d.relation.at (transfers.with_transfer q h) s.transfers_stand (only (volume_at w q.destination) (transfers.with_transfer q h) h refl
-    (subst (λ i. TransferStands (volume_at w i) (transfers.with_transfer q h) h) (sym to)
-    (aborted (volume_at w d.relation.item.destination) d.relation.item t t.legs d.destination.item.snapshots e refl (s.transfers_stand d.relation.item t a.among e)))))))))
 
 -- ---- Resync
 
@@ -356,49 +243,42 @@ resynced_stands w r c s m e = record {
   first_time = λ f. absurd (cc);
 }
 
-resync : (w : Up) (d : List ℕ) → SoundUp w → OfOk Stand (transfers.resync w d)
-resync w d s = with_target _ _ _ _ (λ t at is. passing _ _ _ _ _ (λ _. passing _ _ _ _ _ (λ _. passing _ _ _ _ _ (λ _. passed _ _ _ _ (λ _. with_found _ _ _ _ (λ c e. with_held _ _ _ (λ _. with_held _ _ _ (λ _. past _ _ _ _ (λ _.
-    now Stand _ (there t c (relation_at_place w _ t.relation is) (at_target w t _ at is) e))))))))))
-  where
-    there : (t : Target) (c : Snapshot) → RelationAt w t.relation → volume_at w t.relation.item.destination ≡ t.destination.item → common (volume_at w t.relation.item.source).snapshots t.destination.item.snapshots ≡ Some c →
-        TransfersStand (transfers.with_next_transfer w t.relation.at (transfers.resynced t.relation.item c.ident
-        (transfers.new_transfer w.next_transfer Resync (transfers.next_legs w t.relation.item (Some c.ident) (transfers.as_reverted (policy_at w t.relation.item.policy) c.ident t.destination.item.snapshots)))))
-    there t c a v e = subst (λ ss. TransfersStand (transfers.with_next_transfer w t.relation.at (transfers.resynced t.relation.item c.ident
-        (transfers.new_transfer w.next_transfer Resync (transfers.next_legs w t.relation.item (Some c.ident) (transfers.as_reverted (policy_at w t.relation.item.policy) c.ident ss)))))) (ap (λ y. y.snapshots) v)
-        (transfers_relation w t.relation.at _ s.transfers_stand (only (volume_at w t.relation.item.destination) _ _ refl
-        (resynced_stands w t.relation.item c s a.among (ap (λ y. common (volume_at w t.relation.item.source).snapshots y.snapshots) v ∙ e))))
+-- ---- moves
 
-of_answer : (w : Up) (e : Event) → SoundUp w → OfAnswer Stand (answer w e)
-unfolding answer OfAnswer
-of_answer w (events.CreateVolume path disk kind logical physical) s = create_volume w path disk kind logical physical s
-of_answer w events.ShowVolumes s = now Stand _ s.transfers_stand
-of_answer w (events.Write path block fill) s = write w path block fill s
-of_answer w (events.Snap path name label) s = snap w path name label s
-of_answer w (events.Unsnap path name) s = unsnap w path name s
-of_answer w (events.ShowSnaps path) s = with_found _ _ _ _ (λ v _. now Stand _ s.transfers_stand)
-of_answer w (events.CreatePolicy name kind) s = past _ _ _ _ (λ _. past _ _ _ _ (λ _. now Stand _ s.transfers_stand))
-of_answer w (events.AddRule name label keep preserve) s = with_found _ _ _ _ (λ p _. past _ _ _ _ (λ _. past _ _ _ _ (λ _. past _ _ _ _ (λ _. past _ _ _ _ (λ _. now Stand _ s.transfers_stand)))))
-of_answer w events.ShowPolicies s = now Stand _ s.transfers_stand
-of_answer w (events.Relate source destination policy) s = relate w source destination policy s
-of_answer w (events.Initialize destination) s = initialize w destination s
-of_answer w (events.Update destination) s = update w destination s
-of_answer w (events.Quiesce destination) s = set_quiesced w destination true s
-of_answer w (events.Resume destination) s = set_quiesced w destination false s
-of_answer w (events.Abort destination hard) s = abort w destination hard s
-of_answer w (events.Break destination) s = break_off w destination s
-of_answer w (events.Resync destination) s = resync w destination s
-of_answer w (events.Delete destination) s = delete w destination s
-of_answer w (events.Release source destination) s = release w source destination s
-of_answer w events.ShowRelations s = now Stand _ s.transfers_stand
-of_answer w (events.Clock time) s = past _ _ _ _ (λ _. now Stand _ s.transfers_stand)
-of_answer w (events.Cp path) s = cp w path s
-of_answer w (events.Read path name block) s = with_found _ _ _ _ (λ v _. with_ok _ _ _ (λ i _. past _ _ _ _ (λ _. now Stand _ s.transfers_stand)))
-of_answer w (events.Work shown) s = tt
-of_answer w events.Restart s = tt
-of_answer w events.Head s = now Stand _ s.transfers_stand
-of_answer w (events.VolumeLine volume) s = now Stand _ s.transfers_stand
-of_answer w (events.Digest volume place) s = now Stand _ s.transfers_stand
-of_answer w (events.RelationLine relation) s = now Stand _ s.transfers_stand
+-- a relationship of a sound world after its own move
+module _ (w : Up) (r : Relationship) (s : SoundUp w) (m : Among w.relations r) where
+  abbrev at : Volume
+  at = volume_at w r.destination
+
+  turned : (q : Relationship) → Turn w r q → OfOne (StandsIn w) q
+  turned q (quiesces flag) = transfers_same w r (relations.quiesced_as flag r) s m refl refl refl
+  turned q (resumes t e dp) = one_of (StandsIn w) (transfers.with_transfer r (transfers.resumed t)) (transfers.resumed t) refl
+      (stands_on at r (transfers.with_transfer r (transfers.resumed t)) t (transfers.resumed t) refl refl refl (λ x y. (x, no_landing t.checkpoint x)) (λ _. refl) (s.transfers_stand r t m e))
+  turned q (ends t e n) = none_of (StandsIn w) (transfers.without_transfer r) refl
+  turned q (ends_settled t i rest e l h) = none_of (StandsIn w) (transfers.without_transfer (progress.settled r t i rest)) refl
+  turned q (halts t i rest e l h) = one_of (StandsIn w) (transfers.with_transfer r (transfers.halted t)) (transfers.halted t) refl
+      (stands_on at r (transfers.with_transfer r (transfers.halted t)) t (transfers.halted t) refl refl refl (λ x y. (ap progress.landed_prefix y, ap (λ ks. numbers 0 (progress.landed_prefix ks)) y)) (λ _. refl) (s.transfers_stand r t m e))
+  turned q (halts_settled t i rest e l some h) = let u : Transfer = transfers.halted (record t { legs = rest; checkpoint = 0; landed = [] }) in
+      one_of (StandsIn w) (transfers.with_transfer (progress.settled r t i rest) u) u refl
+      (stands_settled at r t u (transfers.with_transfer (progress.settled r t i rest) u) i rest l refl refl refl refl refl (λ _. refl) (s.transfers_stand r t m e))
+
+  started : (q : Relationship) → Start w r q → OfOne (StandsIn w) q
+  started q (starts kind k none dp first some) = one_of (StandsIn w) (transfers.with_transfer r (transfers.new_transfer w.next_transfer kind (transfers.next_legs w r r.base at.snapshots)))
+      (transfers.new_transfer w.next_transfer kind (transfers.next_legs w r r.base at.snapshots)) refl (started_stands w r kind s m k dp first some)
+  started q (resyncs c e writable other) =
+      let u : Transfer = transfers.new_transfer w.next_transfer Resync (transfers.next_legs w r (Some c.ident) (transfers.as_reverted (policy_at w r.policy) c.ident at.snapshots)) in
+      one_of (StandsIn w) (transfers.resynced r c.ident u) u refl (resynced_stands w r c s m e)
+
+  halved : (q : Relationship) → Halve w r q → OfOne (StandsIn w) q
+  halved q (deletes half none) = transfers_same w r (relations.without_destination r) s m refl refl refl
+  halved q (releases rw none) = transfers_same w r (relations.without_source r) s m refl refl refl
+
+of_move : (w u : Up) → SoundUp w → IsMove w u → TransfersStand u
+of_move w u s (aside a) = aside_stands w u s a
+of_move w u s (relates a b p f) = each_push (StandsIn w) w.relations (relations.new_relation w.next_relation a.at b.at p.at) s.transfers_stand (none_of (StandsIn w) (relations.new_relation w.next_relation a.at b.at p.at) refl)
+of_move w u s (turns r a h q f) = transfers_relation w r.at q s.transfers_stand (turned w r.item s a.among q f)
+of_move w u s (begins r a h q f) = transfers_relation w r.at q s.transfers_stand (started w r.item s a.among q f)
+of_move w u s (halves r a q f) = each_halved (StandsIn w) w.relations r.at q s.transfers_stand (halved w r.item s a.among q f)
 
 -- ---- steps
 
@@ -412,21 +292,21 @@ module _ (w : Up) (k : ℕ) (x : Running) (s : SoundUp w) (r : IsRunning w k x) 
   at_x : volume_at w x.relation.destination ≡ x.destination
   at_x = sym (ap (λ y. y.destination) r.is)
 
-  begins : TransferStands x.destination x.relation x.transfer
-  begins = subst (λ v. TransferStands v x.relation x.transfer) at_x (s.transfers_stand x.relation x.transfer here r.transfer)
+  standing : TransferStands x.destination x.relation x.transfer
+  standing = subst (λ v. TransferStands v x.relation x.transfer) at_x (s.transfers_stand x.relation x.transfer here r.transfer)
 
   at_relation : (q : Relationship) (u : Transfer) → q.transfer ≡ Some u → q.destination ≡ x.relation.destination → TransferStands x.destination q u → TransfersStand (with_relation w k q)
-  at_relation q u e d ts = transfers_relation w k q s.transfers_stand (only (volume_at w q.destination) q u e (subst (λ v. TransferStands v q u) (sym (ap (volume_at w) d ∙ at_x)) ts))
+  at_relation q u e d ts = transfers_relation w k q s.transfers_stand (one_of (StandsIn w) q u e (subst (λ v. TransferStands v q u) (sym (ap (volume_at w) d ∙ at_x)) ts))
 
   goes_on : (u : Transfer) → u.kind ≡ x.transfer.kind → u.legs ≡ x.transfer.legs → (x.transfer.checkpoint ≡ 0 → x.transfer.landed ≡ [] → (u.checkpoint ≡ 0) × (u.landed ≡ [])) → u.pruned ≡ false → TransfersStand (with_relation w k (transfers.with_transfer x.relation u))
-  goes_on u e l h p = at_relation (transfers.with_transfer x.relation u) u refl refl (stands_on x.destination x.relation (transfers.with_transfer x.relation u) x.transfer u e refl l h (λ _. p) begins)
+  goes_on u e l h p = at_relation (transfers.with_transfer x.relation u) u refl refl (stands_on x.destination x.relation (transfers.with_transfer x.relation u) x.transfer u e refl l h (λ _. p) standing)
 
   stops : (reason : Reason) → TransfersStand (with_relation w k (transfers.with_transfer x.relation (interrupted reason x.transfer)))
   stops reason = goes_on (interrupted reason x.transfer) refl refl (λ a b. (a, no_landing x.transfer.checkpoint a)) refl
 
   settles : (i : Ident) (is : List Ident) → x.transfer.legs ≡ i ∷ is → TransfersStand (with_relation w k (settled_relation x i is))
   settles i [] e = transfers_relation w k (settled_relation x i []) s.transfers_stand (λ u f. absurd (cc))
-  settles i (j ∷ is) e = at_relation (settled_relation x i (j ∷ is)) _ refl refl (stands_settled x.destination x.relation x.transfer _ (settled_relation x i (j ∷ is)) i (j ∷ is) e refl refl refl refl refl begins.unpruned begins)
+  settles i (j ∷ is) e = at_relation (settled_relation x i (j ∷ is)) _ refl refl (stands_settled x.destination x.relation x.transfer _ (settled_relation x i (j ∷ is)) i (j ∷ is) e refl refl refl refl refl standing.unpruned standing)
 
   fewer : (u : Volume) → (u.kind ≡ Rw → x.destination.kind ≡ Rw) → ((t : Snapshot) → Among u.snapshots t → Among x.destination.snapshots t) → TransfersStand (with_destination w x u)
   fewer u e h = transfers_fewer w x.relation.destination x.destination u at_x s.transfers_stand e h
@@ -453,10 +333,10 @@ module _ (w : Up) (k : ℕ) (x : Running) (s : SoundUp w) (r : IsRunning w k x) 
   published_begins : (leg : Snapshot) → Ahead x leg → TransferStands (published w x leg) x.relation x.transfer
   published_begins leg a = record {
     writable = λ e. absurd (not_both x.destination.kind e (dp_there w k x s r a.stays x.destination.kind refl));
-    unpruned = begins.unpruned;
-    resync = begins.resync;
+    unpruned = standing.unpruned;
+    resync = standing.resync;
     ahead = λ i m. false_from_ne_true _ (λ h. let (t, n, q) = copy_from_has (list_published w x (arrived x leg)) i h in ahead i m t q (published_among w x leg t n));
-    ends = begins.ends;
+    ends = standing.ends;
     first_time = λ e t n. first e t (published_among w x leg t n);
   }
     where
@@ -467,11 +347,11 @@ module _ (w : Up) (k : ℕ) (x : Running) (s : SoundUp w) (r : IsRunning w k x) 
       legs_differ = subst (KeysDiffer (λ (i : Ident). i)) a.legs (s.crossed.transfers x.relation x.transfer here r.transfer).legs_differ
 
       ahead : (i : Ident) → Among (later x.transfer.legs) i → (t : Snapshot) → t.ident ≡ i → Among x.destination.snapshots t ⊎ (t ≡ arrived x leg) → ⊥
-      ahead i m t q (inl n) = true≢false (sym (has_from_copy x.destination.snapshots i (t, n, q)) ∙ begins.ahead i m)
+      ahead i m t q (inl n) = true≢false (sym (has_from_copy x.destination.snapshots i (t, n, q)) ∙ standing.ahead i m)
       ahead i m t q (inr f) = among_each (λ j. ¬ (j ≡ a.i)) a.later i legs_differ.0 (subst (λ ks. Among (later ks) i) a.legs m) (sym q ∙ (ap (λ y. y.ident) f ∙ is))
 
       first : x.relation.base ≡ None → (t : Snapshot) → Among x.destination.snapshots t ⊎ (t ≡ arrived x leg) → IsFirst x.transfer.legs t.ident
-      first e t (inl n) = begins.first_time e t n
+      first e t (inl n) = standing.first_time e t n
       first e t (inr f) = subst (λ ks. IsFirst ks t.ident) (sym a.legs) (ap (λ y. y.ident) f ∙ is)
 
   publishes : (leg : Snapshot) → Ahead x leg → TransfersStand (with_destination w x (published w x leg))
@@ -483,10 +363,10 @@ module _ (w : Up) (k : ℕ) (x : Running) (s : SoundUp w) (r : IsRunning w k x) 
   ships leg a u e l = at_relation (transfers.with_transfer x.relation u) u refl refl (record {
     writable = λ z. absurd (not_both x.destination.kind z (dp_there w k x s r a.stays x.destination.kind refl));
     unpruned = λ z. absurd (not_both x.destination.kind z (dp_there w k x s r a.stays x.destination.kind refl));
-    resync = λ z. begins.resync (sym e ∙ z);
-    ahead = λ i m. begins.ahead i (subst (λ is. Among (later is) i) l m);
-    ends = λ z f. begins.ends z (sym l ∙ f);
-    first_time = λ z t m. subst (λ is. IsFirst is t.ident) (sym l) (begins.first_time z t m);
+    resync = λ z. standing.resync (sym e ∙ z);
+    ahead = λ i m. standing.ahead i (subst (λ is. Among (later is) i) l m);
+    ends = λ z f. standing.ends z (sym l ∙ f);
+    first_time = λ z t m. subst (λ is. IsFirst is t.ident) (sym l) (standing.first_time z t m);
   })
 
   -- the destination is read-only, so that the mark may be set
@@ -494,7 +374,8 @@ module _ (w : Up) (k : ℕ) (x : Running) (s : SoundUp w) (r : IsRunning w k x) 
   prunes leg a =
       let h = fewer (without (goes w x) x.destination) (λ e. e) (thinned_among (filter_thins (λ u. not (goes w x u)) x.destination.snapshots)) in
       transfers_relation (with_destination w x (without (goes w x) x.destination)) k (transfers.with_transfer x.relation (record x.transfer { pruned = true })) h
-      (only _ _ (record x.transfer { pruned = true }) refl (stands_on _ x.relation _ x.transfer (record x.transfer { pruned = true }) refl refl refl (λ a b. (a, b)) (λ z. absurd (not_both x.destination.kind (sym (ap (λ v. v.kind) now_there) ∙ z) (dp_there w k x s r a.stays x.destination.kind refl))) (h x.relation x.transfer here r.transfer)))
+      (one_of (StandsIn (with_destination w x (without (goes w x) x.destination))) (transfers.with_transfer x.relation (record x.transfer { pruned = true })) (record x.transfer { pruned = true }) refl
+      (stands_on (volume_at (with_destination w x (without (goes w x) x.destination)) x.relation.destination) x.relation (transfers.with_transfer x.relation (record x.transfer { pruned = true })) x.transfer (record x.transfer { pruned = true }) refl refl refl (λ a b. (a, b)) (λ z. absurd (not_both x.destination.kind (sym (ap (λ v. v.kind) now_there) ∙ z) (dp_there w k x s r a.stays x.destination.kind refl))) (h x.relation x.transfer here r.transfer)))
     where
       now_there : volume_at (with_destination w x (without (goes w x) x.destination)) x.relation.destination ≡ without (goes w x) x.destination
       now_there = set_at w.volumes x.relation.destination (without (goes w x) x.destination) no_volume (s.crossed.relations x.relation here).destination
@@ -515,9 +396,11 @@ of_step w e s (by_transfer k x kind r d i) = of_effect w k x kind e s r (kind_is
 of_step w e s (by_tidy n d i) = subst By (sym i) (transfers_fewer w n (volume_at w n) (without (is_tidied w n) (volume_at w n)) refl s.transfers_stand (λ z. z) (thinned_among (filter_thins (λ t. not (is_tidied w n t)) (volume_at w n).snapshots)))
 
 pub deeds_keep_transfers : (e : Event) (d : Deed) → SoundUp d.old → IsDeed e d → TransfersStand d.new
-unfolding IsDeed
-deeds_keep_transfers (events.Work shown) d s i = of_step d.old _ s i
-deeds_keep_transfers e d s i = done_gives TransfersStand (answer d.old e) d (of_answer d.old e s) i
+deeds_keep_transfers e d s i = go (deed_moves e d i)
+  where
+    go : IsStepDeed d ⊎ IsMove d.old d.new → TransfersStand d.new
+    go (inl t) = of_step d.old _ s t
+    go (inr m) = of_move d.old d.new s m
 
 -- ---- restarts
 

@@ -127,7 +127,7 @@ idle_had w r q t m e half d p = idle_turned w r q m half d p (λ z. absurd (let 
 idle_of_turn : (w : Up) (r q : Relationship) → Among w.relations r → Turn w r q → IdleOne w q
 idle_of_turn w r q m (quiesces flag) = idle_turned w r (quiesced_as flag r) m (λ h. h) refl refl (λ h. h)
 idle_of_turn w r q m (resumes t e dp) = idle_had w r (with_transfer r (resumed t)) t m e (λ h. h) refl refl
-idle_of_turn w r q m (ends t e) = idle_had w r (without_transfer r) t m e (λ h. h) refl refl
+idle_of_turn w r q m (ends t e n) = idle_had w r (without_transfer r) t m e (λ h. h) refl refl
 idle_of_turn w r q m (ends_settled t i later e l h) = idle_had w r (without_transfer (settled r t i later)) t m e (λ h. h) refl refl
 idle_of_turn w r q m (halts t i later e l h) = idle_had w r (with_transfer r (halted t)) t m e (λ h. h) refl refl
 idle_of_turn w r q m (halts_settled t i later e l n h) = idle_had w r (with_transfer (settled r t i later) (halted (record t { legs = later; checkpoint = 0; landed = [] }))) t m e (λ h. h) refl refl
@@ -181,7 +181,7 @@ same_stands w r q t u s m e es ed ep eb en ul = family_on w r q t u es ed ep en 
 of_turn : (w : Up) (r q : Relationship) → SoundUp w → Among w.relations r → Turn w r q → OfOne (FamilyStands w) q
 of_turn w r q s m (quiesces flag) = λ t e. same_stands w r (quiesced_as flag r) t t s m e refl refl refl refl refl refl
 of_turn w r q s m (resumes t e dp) = only w (with_transfer r (resumed t)) (resumed t) refl (same_stands w r (with_transfer r (resumed t)) t (resumed t) s m e refl refl refl refl refl refl)
-of_turn w r q s m (ends t e) = none_of (FamilyStands w) (without_transfer r) refl
+of_turn w r q s m (ends t e n) = none_of (FamilyStands w) (without_transfer r) refl
 of_turn w r q s m (ends_settled t i later e l h) = none_of (FamilyStands w) (without_transfer (settled r t i later)) refl
 of_turn w r q s m (halts t i later e l h) = only w (with_transfer r (halted t)) (halted t) refl (same_stands w r (with_transfer r (halted t)) t (halted t) s m e refl refl refl refl refl refl)
 of_turn w r q s m (halts_settled t i later e l n h) = only w _ _ refl

@@ -120,8 +120,8 @@ module _ (w : Up) (k : ℕ) (x : Running) (s : SoundUp w) (r : IsRunning w k x) 
       (λ v d. absurd (mirrors_none w k x s r mirror q t m e v d))
       (λ v d g. let f = sources g in record {
         someone = (x.source, source_stands w k x r s.crossed, f);
-        from = from f ((same_family w k x s r) mirror other);
-        legs = λ o j l h. lacks_by x.destination.snapshots (list_published w x (arrived x leg)) j (λ y z i. old o d f j l h y i (published_among w x leg y z)) (before o d f j l h ((same_family w k x s r) mirror other));
+        from = from f (same_family w k x s r mirror other);
+        legs = λ o j l h. lacks_by x.destination.snapshots (list_published w x (arrived x leg)) j (λ y z i. old o d f j l h y i (published_among w x leg y z)) (before o d f j l h (same_family w k x s r mirror other));
         dp = λ o z. (some (is_mirror x.policy.kind) mirror, λ p c y. absurd (not_vault w k x s r mirror p c y.0 y.1 y.2));
       })
     where

@@ -110,7 +110,7 @@ module _ (w : Up) (k : ℕ) (x : Running) (s : SoundUp w) (r : IsRunning w k x) 
 
   pub prunes : (leg : Snapshot) → Ahead x leg → is_mirror x.policy.kind ≡ true → KeepsNeeded w (with_destination w x (without (goes w x) x.destination)) → AllStand (with_destination w x (without (goes w x) x.destination))
   prunes leg a mirror n = family_same w x.relation.destination x.destination (without (goes w x) x.destination) s (at_x w k x s r) (crossed w k x s r).destination n refl
-      (λ q t m e v j l. (λ d _. absurd ((mirrors_none w k x s r) mirror q t m e v d), lacks_by x.destination.snapshots _ j (λ y z i. has_from_copy x.destination.snapshots j (y, thinned_among (filter_thins _ x.destination.snapshots) y z, i))))
+      (λ q t m e v j l. (λ d _. absurd (mirrors_none w k x s r mirror q t m e v d), lacks_by x.destination.snapshots _ j (λ y z i. has_from_copy x.destination.snapshots j (y, thinned_among (filter_thins _ x.destination.snapshots) y z, i))))
       (λ d. (d, prune_leaves leg a n))
 
   -- ---- Revert
@@ -124,7 +124,7 @@ module _ (w : Up) (k : ℕ) (x : Running) (s : SoundUp w) (r : IsRunning w k x) 
 
   pub reverts_mirror : (base : Snapshot) → snapshot_of x.destination.snapshots x.relation.base ≡ Some base → is_mirror x.policy.kind ≡ true → KeepsNeeded w (with_destination w x (reverted x base)) → AllStand (with_destination w x (reverted x base))
   reverts_mirror base f mirror n q t m e = family_volume w x.relation.destination x.destination (reverted x base) s (at_x w k x s r) (crossed w k x s r).destination n q t m e
-      (λ v d. absurd ((mirrors_none w k x s r) mirror q t m e v d))
+      (λ v d. absurd (mirrors_none w k x s r mirror q t m e v d))
       (λ v d g. let old = same_family g in record {
         someone = (x.destination, destination_stands w k x r s.crossed, old);
         from = inl old;
@@ -133,7 +133,7 @@ module _ (w : Up) (k : ℕ) (x : Running) (s : SoundUp w) (r : IsRunning w k x) 
         dp = λ o z. (
           filled_has _ base.ident (subst (λ y. has y.snapshots base.ident ≡ true) (set_at w.volumes x.relation.destination (reverted x base) no_volume (crossed w k x s r).destination)
               (n x.relation.destination base.ident ((crossed w k x s r).base_at_destination base.ident (based base f) (transfer w k x s r).at_destination) (base_at_destination w x.relation base.ident (here w k x s r) (transfer w k x s r).at_destination (based base f)))),
-          λ p c y. absurd ((not_vault w k x s r) mirror p c y.0 y.1 y.2),
+          λ p c y. absurd (not_vault w k x s r mirror p c y.0 y.1 y.2),
         );
       })
     where

@@ -145,7 +145,7 @@ of_turn : (w : Up) (r q : Relationship) → SoundUp w → Among w.relations r �
 of_turn w r q s m (quiesces flag) = λ t e. fits_alike (running_in w r t) (running_in w (quiesced_as flag r) t) (alike_turned w r (quiesced_as flag r) t t refl refl refl refl) refl (s.legs_fit r t m e)
 of_turn w r q s m (resumes t e dp) = only w (with_transfer r (resumed t)) (resumed t) refl
     (fits_rested (running_in w r t) (running_in w (with_transfer r (resumed t)) (resumed t)) (alike_turned w r (with_transfer r (resumed t)) t (resumed t) refl refl refl refl) (resumed_rests t (resumed t) refl refl refl refl) (s.legs_fit r t m e))
-of_turn w r q s m (ends t e) = none_of (FitsIn w) (without_transfer r) refl
+of_turn w r q s m (ends t e n) = none_of (FitsIn w) (without_transfer r) refl
 of_turn w r q s m (ends_settled t i later e l h) = none_of (FitsIn w) (without_transfer (settled r t i later)) refl
 of_turn w r q s m (halts t i later e l h) = only w (with_transfer r (halted t)) (halted t) refl
     (fits_rested (running_in w r t) (running_in w (with_transfer r (halted t)) (halted t)) (alike_turned w r (with_transfer r (halted t)) t (halted t) refl refl refl refl) (halted_rests t) (s.legs_fit r t m e))

@@ -46,7 +46,7 @@ in_legs t i later l j m = subst (λ is. Among is j) (sym l) (inr m)
 of_turn : (w : Up) (r q : Relationship) → SoundUp w → Among w.relations r → Turn w r q → OfOne (VaultKeeps w) q
 of_turn w r q s m (quiesces flag) = λ t e. kept_on w r _ t t refl refl refl (λ i n. n) (s.legs_kept r t m e)
 of_turn w r q s m (resumes t e dp) = only w _ _ refl (kept_on w r _ t _ refl refl refl (λ i n. n) (s.legs_kept r t m e))
-of_turn w r q s m (ends t e) = none_of (VaultKeeps w) (without_transfer r) refl
+of_turn w r q s m (ends t e n) = none_of (VaultKeeps w) (without_transfer r) refl
 of_turn w r q s m (ends_settled t i later e l h) = none_of (VaultKeeps w) (without_transfer (settled r t i later)) refl
 of_turn w r q s m (halts t i later e l h) = only w _ _ refl (kept_on w r _ t _ refl refl refl (λ j n. n) (s.legs_kept r t m e))
 of_turn w r q s m (halts_settled t i later e l n h) = only w _ _ refl (kept_on w r _ t _ refl refl refl (in_legs t i later l) (s.legs_kept r t m e))

@@ -2,6 +2,7 @@
 use Rattle.std.proofs.Common.{◌≡◌, ◌⊎◌, ℕ, List, [], ◌∷◌, ◌++◌, Option, Some, None, sym, ap, subst, ◌∙◌, inl, inr}
 use Rattle.std.specs.Prelude.{slice_set}
 use Rattle.std.specs.List.{filter}
+use Rattle.std.proofs.lemmas.Option.{same_Some}
 use Rattle.sm_defs.specs.Words.{Among}
 use Rattle.sm_defs.specs.Relationship.{Relationship, Transfer}
 use Rattle.sm_model.specs.OfRelations.{has_a_half}
@@ -40,3 +41,7 @@ each_halved P rs k q h g r t m f = each_set P rs k q h g r t (among_filter has_a
 -- a relationship without a transfer
 pub none_of : (P : Relationship → Transfer → Type 0) (q : Relationship) → q.transfer ≡ None → OfOne P q
 none_of P q e t f = absurd (let g : ◌≡◌ {A = Option Transfer} None (Some t) = sym e ∙ f in cc)
+
+-- the one transfer that a relationship has
+pub one_of : (P : Relationship → Transfer → Type 0) (q : Relationship) (u : Transfer) → q.transfer ≡ Some u → P q u → OfOne P q
+one_of P q u e h t f = subst (P q) (same_Some u t (sym e ∙ f)) h

@@ -46,7 +46,8 @@ pub data Aside (w : Up) : Up → Type 0 where
 pub data Turn (w : Up) (r : Relationship) : Relationship → Type 0 where
   quiesces : (flag : Bool) → Turn w r (relations.quiesced_as flag r)
   resumes : (t : Transfer) → r.transfer ≡ Some t → (volume_at w r.destination).kind ≡ Dp → Turn w r (transfers.with_transfer r (transfers.resumed t))
-  ends : (t : Transfer) → r.transfer ≡ Some t → Turn w r (transfers.without_transfer r)
+  -- where its first leg, if it has one, is not at the destination
+  ends : (t : Transfer) → r.transfer ≡ Some t → ((i : Ident) (later : List Ident) → t.legs ≡ i ∷ later → has (volume_at w r.destination).snapshots i ≡ false) → Turn w r (transfers.without_transfer r)
   -- with its first leg settled, which the destination has
   ends_settled : (t : Transfer) (i : Ident) (later : List Ident) → r.transfer ≡ Some t → t.legs ≡ i ∷ later → has (volume_at w r.destination).snapshots i ≡ true →
       Turn w r (transfers.without_transfer (progress.settled r t i later))

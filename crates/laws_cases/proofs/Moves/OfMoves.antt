@@ -119,20 +119,22 @@ no_legs : (hard : Bool) (t : Transfer) → t.legs ≡ [] → (hard || is_empty t
 no_legs hard t l e = filled t.legs (or_parts hard (is_empty t.legs) e).1 l
 
 abort_left : (w : Up) (r : Found Relationship) (t : Transfer) (hard : Bool) → RelationAt w r → r.item.destination_half ≡ true → r.item.transfer ≡ Some t →
+    ((i : Ident) (later : List Ident) → t.legs ≡ i ∷ later → has (volume_at w r.item.destination).snapshots i ≡ false) →
     ((hard || is_empty t.legs) ≡ false → Turn w r.item (transfers.with_transfer r.item (transfers.halted t))) → OfOk (Moves w) (transfers.abort_settled w r.at hard r.item t)
-abort_left w r t hard a half e h = subst (λ o. OfOk (Moves w) (transfers.abort_it w r.at hard r.item (transfers.transfer_or t o))) (sym e)
-    (whether_so (Moves w) (hard || is_empty t.legs) _ _ (λ _. now (Moves w) _ (turns r a half _ (ends t e))) (λ m. now (Moves w) _ (turns r a half _ (h m))))
+abort_left w r t hard a half e n h = subst (λ o. OfOk (Moves w) (transfers.abort_it w r.at hard r.item (transfers.transfer_or t o))) (sym e)
+    (whether_so (Moves w) (hard || is_empty t.legs) _ _ (λ _. now (Moves w) _ (turns r a half _ (ends t e n))) (λ m. now (Moves w) _ (turns r a half _ (h m))))
 
 abort_first : (w : Up) (r : Found Relationship) (t : Transfer) (hard : Bool) (i : Ident) (later : List Ident) (there : List Snapshot) (b : Bool) → RelationAt w r → r.item.destination_half ≡ true → r.item.transfer ≡ Some t →
     (volume_at w r.item.destination).snapshots ≡ there → t.legs ≡ i ∷ later → has there i ≡ b → OfOk (Moves w) (transfers.abort_settled w r.at hard (cond b (progress.settled r.item t i later) r.item) t)
 abort_first w r t hard i later there true a half e f l h = whether_so (Moves w) (hard || is_empty later) _ _
     (λ _. now (Moves w) _ (turns r a half _ (ends_settled t i later e l (ap (λ ss. has ss i) f ∙ h))))
     (λ m. now (Moves w) _ (turns r a half _ (halts_settled t i later e l (filled later (or_parts hard (is_empty later) m).1) (ap (λ ss. has ss i) f ∙ h))))
-abort_first w r t hard i later there false a half e f l h = abort_left w r t hard a half e (λ _. halts t i later e l (ap (λ ss. has ss i) f ∙ h))
+abort_first w r t hard i later there false a half e f l h = abort_left w r t hard a half e (λ j js k. let same : i ∷ later ≡ j ∷ js = sym l ∙ k in let first : i ≡ j = cc in
+    subst (λ y. has (volume_at w r.item.destination).snapshots y ≡ false) first (ap (λ ss. has ss i) f ∙ h)) (λ _. halts t i later e l (ap (λ ss. has ss i) f ∙ h))
 
 abort_legs : (w : Up) (r : Found Relationship) (t : Transfer) (hard : Bool) (is : List Ident) (there : List Snapshot) → RelationAt w r → r.item.destination_half ≡ true → r.item.transfer ≡ Some t →
     (volume_at w r.item.destination).snapshots ≡ there → t.legs ≡ is → OfOk (Moves w) (transfers.abort_settled w r.at hard (progress.settled_if_there there r.item t is) t)
-abort_legs w r t hard [] there a half e f l = abort_left w r t hard a half e (λ m. absurd (no_legs hard t l m))
+abort_legs w r t hard [] there a half e f l = abort_left w r t hard a half e (λ i later k. absurd (let g : [] ≡ i ∷ later = sym l ∙ k in cc)) (λ m. absurd (no_legs hard t l m))
 abort_legs w r t hard (i ∷ later) there a half e f l = abort_first w r t hard i later there (has there i) a half e f l refl
 
 abort : (w : Up) (d : List ℕ) (hard : Bool) → OfOk (Moves w) (transfers.abort w d hard)
