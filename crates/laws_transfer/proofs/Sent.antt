@@ -9,7 +9,7 @@ use Rattle.sm_defs.proofs.Classes.{vault_has_class}
 use Rattle.sm_defs.specs.Classes.{has_class}
 use Rattle.sm_defs.specs.Words.{Among}
 use Rattle.sm_defs.specs.Volume.{Snapshot, idents, ident_of, has}
-use Rattle.sm_defs.specs.Relationship.{Policy, Rule, is_mirror, sends_all, rule_for}
+use Rattle.sm_defs.specs.Relationship.{Policy, is_mirror, sends_all, rule_for}
 use Rattle.sm_defs.specs.Legs.{Source, Legs, legs, after_base, candidates, only_newest, made_ident, mirror_legs, vault_legs}
 use Rattle.laws_transfer.specs.Sending.{IsNew, IsNewIdent, HasRule}
 use Rattle.laws_transfer.proofs.Lists.{among_left, among_map, from_map, filter_among, among_filter, copy_from_has, has_from_copy}
