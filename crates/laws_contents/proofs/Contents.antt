@@ -12,7 +12,7 @@ use Rattle.sm_model.specs.Origin.{makes, made_by, origin}
 use Rattle.sm_model.specs.LegalRun as runs
 use Rattle.sm_model.specs.LegalRun.{IsDeed, Fits, Run, restart_deed}
 use Rattle.sm_model.specs.Sound.{SoundUp}
-use Rattle.laws_contents.specs.Contents.{BeginSound, OriginsHold}
+use Rattle.laws_contents.specs.Contents.{BeginSound}
 use Rattle.laws_copies.proofs.Growing as growing
 use Rattle.laws_copies.proofs.Growing.{deed_grown}
 use Rattle.laws_cases.proofs.Needed.NeedsStay.{deeds_keep}
@@ -85,13 +85,6 @@ of_run start before old new (e ∷ es) sides ds (first, later, left, mid, asked,
       ready = subst (λ xs. Ready start xs new) (append_assoc before first later) rest.ready;
       once = once_joined start before first later one.once rest.once;
     })
-
-hold : (start : Up) (ds : List Deed) (new : World) → Ready start ds new → OriginsHold start ds new
-hold start ds (up w) r = r.origins
-hold start ds (down disk d) r = (r.0.origins, λ s. (along_deed start ds d r.0 (r.1 s)).origins)
-
-pub contents_are_origins : (start : Up) (es : List Entry) (sides : List Side) (ds : List Deed) (last : World) → SoundUp start → Run (up start) es sides ds last → BeginSound ds → OriginsHold start ds last
-contents_are_origins start es sides ds last s r h = hold start ds last (of_run start [] (up start) last es sides ds r (along_start start s) h).ready
 
 once_at : (start : Up) (before earlier : List Deed) (d : Deed) (later : List Deed) (i : Ident) → MadeOnce start before (earlier ++ d ∷ later) → makes i d ≡ true → origin start (before ++ earlier) i ≡ None
 once_at start before [] d later i h m = subst (λ xs. origin start xs i ≡ None) (sym (append_none before)) (h.0 i m)

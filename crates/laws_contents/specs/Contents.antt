@@ -1,18 +1,16 @@
 -- Each snapshot has the contents that its origin held.
-use Rattle.std.specs.Prelude.{◌≡◌, ◌⊎◌, true, false, List, [], ◌∷◌, ◌++◌, Some, None}
+use Rattle.std.specs.Prelude.{◌≡◌, ◌⊎◌, true, false, List, ◌++◌, Some}
 use Rattle.std.specs.List.{AllByRecursion}
 use Rattle.sm_base.specs.declared.numbers.Ident.{Ident}
-use Rattle.sm_base.specs.declared.numbers.Side.{Side}
 use Rattle.sm_model.specs.declared.event.Event.{Event}
-use Rattle.sm_model.specs.declared.reply.Entry.{Entry}
 use Rattle.sm_defs.specs.Image.{Image, SameContents}
 use Rattle.sm_defs.specs.Volume.{Volume, Snapshot}
 use Rattle.sm_defs.specs.World.{Up, volume_at}
-use Rattle.sm_model.specs.World.{World, up, down, Deed}
+use Rattle.sm_model.specs.World.{Deed}
 use Rattle.sm_model.specs.Standing.{Stands}
 use Rattle.sm_model.specs.CopiesAgree.{IsCopy}
 use Rattle.sm_model.specs.Origin.{makes, origin}
-use Rattle.sm_model.specs.LegalRun.{IsDeed, Run}
+use Rattle.sm_model.specs.LegalRun.{IsDeed}
 use Rattle.sm_model.specs.Sound.{SoundUp}
 
 -- ---- one deed
@@ -45,21 +43,6 @@ HasOrigin start ds s = (image : Image) × (origin start ds s.ident ≡ Some imag
 
 abbrev pub AllHaveOrigins : Up → List Deed → Up → Type 0
 AllHaveOrigins start ds w = (v : Volume) (s : Snapshot) → Stands w v s → HasOrigin start ds s
-
--- of a world that is down: the world before the deed that failed, and the one after it with that deed
-abbrev pub OriginsHold : Up → List Deed → World → Type 0
-OriginsHold start ds (up w) = AllHaveOrigins start ds w
-OriginsHold start ds (down disk d) = AllHaveOrigins start ds d.old × (SoundUp d.old → AllHaveOrigins start (ds ++ d ∷ []) d.new)
-
--- after each run from a sound start whose deeds all begin in sound worlds
-abbrev pub ContentsAreTheOrigins : Type 0
-ContentsAreTheOrigins = (start : Up) (entries : List Entry) (sides : List Side) (deeds : List Deed) (last : World) →
-    SoundUp start → Run (up start) entries sides deeds last → BeginSound deeds → OriginsHold start deeds last
-
--- what a deed of such a run takes had no origin before: no copy at the start, and no earlier deed took it
-abbrev pub IdentitiesAreMadeOnce : Type 0
-IdentitiesAreMadeOnce = (start : Up) (entries : List Entry) (sides : List Side) (earlier : List Deed) (d : Deed) (later : List Deed) (last : World) (i : Ident) →
-    SoundUp start → Run (up start) entries sides (earlier ++ d ∷ later) last → BeginSound (earlier ++ d ∷ later) → makes i d ≡ true → origin start earlier i ≡ None
 
 -- later deeds leave an origin that is known
 abbrev pub OriginsStay : Type 0

@@ -12,11 +12,12 @@ use Rattle.sm_model.specs.Steps.{Effect, reverted, prepared_snapshot, arrived, p
 use Rattle.sm_model.specs.Due.{StepKind, IsEffect, IsStep, by_transfer, by_tidy, reserved_leg, goes, is_tidied}
 use Rattle.sm_model.specs.Sound.{SoundUp}
 use Rattle.laws_transfer.proofs.Lists.{among_append, copy_from_has}
+use Rattle.laws_transfer.proofs.Kept.{filter_thins}
 use Rattle.laws_cases.proofs.Answers.Walk.{going}
 use Rattle.laws_cases.proofs.Needed.Needs.{set_cases, push_within}
-use Rattle.laws_cases.proofs.Lists.Thinned.{filter_thins, thinned_among}
+use Rattle.laws_cases.proofs.Lists.Thinned.{thinned_among}
 use Rattle.laws_copies.proofs.Fresh.{client_fresh}
-use Rattle.laws_cases.proofs.Steps.Parties.{snapshot_is}
+use Rattle.laws_cases.proofs.Steps.Parties.{snapshot_is, at_x}
 use Rattle.laws_cases.proofs.Steps.DueCases.{Ahead, IsDue, due_revert, due_finish, due_settle, due_prepare, due_prune, due_publish, due_checkpoint, due_ship, kind_is_due}
 use Rattle.laws_cases.proofs.Steps.Landing.{reverted_thins}
 use Rattle.laws_copies.proofs.StepTags.{published_among}
@@ -75,9 +76,6 @@ of_move w u s (begins r a h q f) = λ v l t m. inl m
 of_move w u s (halves r a q f) = λ v l t m. inl m
 
 -- ---- steps
-
-pub at_x : (w : Up) (k : ℕ) (x : Running) → IsRunning w k x → volume_at w x.relation.destination ≡ x.destination
-at_x w k x r = sym (ap (λ y. y.destination) r.is)
 
 published_new : (w : Up) (x : Running) (leg : Snapshot) → Ahead x leg → (s : Snapshot) → Among (published w x leg).snapshots s → IsOldOrNew x.destination.snapshots s
 published_new w x leg a s m = go (published_among w x leg s m)

@@ -24,9 +24,10 @@ use Rattle.sm_model.specs.Steps.{Effect, reverted, arrived, published, prepared_
 use Rattle.sm_model.specs.Due.{StepKind, reserved_leg, IsEffect, IsStep, by_transfer, by_tidy, is_tidied, goes}
 use Rattle.sm_model.specs.LegalRun.{IsStepDeed, IsDeed}
 use Rattle.laws_transfer.proofs.Lists.{among_append, among_right, has_from_copy}
+use Rattle.laws_transfer.proofs.Kept.{filter_thins}
 use Rattle.laws_cases.proofs.Answers.Walk.{going}
 use Rattle.laws_cases.proofs.Lists.Members.{among_get_or, found_within, length_set, set_at}
-use Rattle.laws_cases.proofs.Lists.Thinned.{all_kept, filter_thins, thinned_among}
+use Rattle.laws_cases.proofs.Lists.Thinned.{all_kept, thinned_among}
 use Rattle.laws_cases.proofs.Lists.Frames.{stands_set, stands_push}
 use Rattle.laws_copies.proofs.Copies.{ComesFrom, AllCome, stays}
 use Rattle.laws_copies.proofs.Fresh.{client_fresh}

@@ -1,8 +1,8 @@
 -- Tags still fit in a volume that was changed.
-use Rattle.std.proofs.Common.{◌≡◌, ◌≢◌, ◌⊎◌, ◌≤◌, ℕ, zero, suc, ◌==◌, ◌||◌, Bool, true, false, cond, not, List, [], ◌∷◌, ◌++◌, map, Some, refl, ap, sym, subst, ◌∙◌, inl, inr, eq-eqb, arith, zero-le, ◌+◌}
+use Rattle.std.proofs.Common.{◌≡◌, ◌≢◌, ◌⊎◌, ◌≤◌, ℕ, zero, suc, ◌==◌, ◌||◌, Bool, true, false, cond, not, List, [], ◌∷◌, ◌++◌, map, Some, refl, ap, sym, subst, ◌∙◌, inl, inr, eq-eqb, arith, zero-le}
 use Rattle.std.proofs.lemmas.Bool.{or_left, or_right, or_cases, both_ways, not-true}
 use Rattle.std.proofs.lemmas.Option.{same_Some}
-use Rattle.std.specs.Prelude.{slice_get, ◌<◌}
+use Rattle.std.specs.Prelude.{slice_get}
 use Rattle.std.specs.List.{filter, list_any, flat_map, AllByRecursion}
 use Rattle.sm_defs.specs.Words.{Among, KeysDiffer}
 use Rattle.sm_defs.specs.Image.{Block, Image, tags, tag_of, stands, full_block}
@@ -13,6 +13,7 @@ use Rattle.sm_defs.specs.Operations.{first_of, with_snapshot}
 use Rattle.sm_model.specs.OfVolumes.{written}
 use Rattle.laws_transfer.proofs.Lists.{among_append, from_map, among_map}
 use Rattle.sm_defs.specs.Thinned.{Thinned}
+use Rattle.laws_transfer.proofs.Landed.{below_numbers}
 use Rattle.laws_cases.proofs.Lists.Thinned.{thinned_among, thinned_map, thinned_differ}
 use Rattle.laws_cases.proofs.Lists.Frames.{get_set}
 use Rattle.sm_defs.specs.Operations as operations
@@ -125,11 +126,6 @@ first_passes : (p : ℕ → Bool) (xs : List ℕ) → first_of (filter p xs) ≢
 first_passes p [] n = absurd (n refl)
 first_passes p (x ∷ xs) n = first_go p x xs (p x) refl n (first_passes p xs)
 
-pub numbers_below : (n t k : ℕ) → Among (numbers t n) k → k < t + n
-numbers_below zero t k m = absurd m
-numbers_below (suc n) t k (inl e) = omega arith
-numbers_below (suc n) t k (inr m) = let h = numbers_below n (suc t) k m in omega arith
-
 zero_or : (n : ℕ) → (n ≡ 0) ⊎ (n ≢ 0)
 zero_or zero = inl refl
 zero_or (suc n) = inr (λ e. omega arith)
@@ -144,7 +140,7 @@ free_in_range v = go (zero_or (first_of (free_tags v)))
   where
     go : (first_of (free_tags v) ≡ 0) ⊎ (first_of (free_tags v) ≢ 0) → first_of (free_tags v) ≤ v.physical
     go (inl e) = rw e zero-le
-    go (inr n) = let h = numbers_below v.physical 1 _ (first_passes (λ t. not (stands t (tags_of v))) (numbers 1 v.physical) n).1 in omega arith
+    go (inr n) = let h = below_numbers v.physical 1 _ (first_passes (λ t. not (stands t (tags_of v))) (numbers 1 v.physical) n).1 in omega arith
 
 -- each block of u is one of v, or y at the place k
 abbrev pub StoredOr : Volume → Volume → ℕ → Block → Type 0

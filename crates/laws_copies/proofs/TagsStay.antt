@@ -21,9 +21,9 @@ use Rattle.sm_model.specs.Running.{Running, IsRunning}
 use Rattle.sm_model.specs.Steps.{Effect, prepared_snapshot}
 use Rattle.sm_model.specs.Due.{StepKind, reserved_leg, IsEffect, IsStep, by_transfer, by_tidy, goes}
 use Rattle.sm_model.specs.LegalRun.{IsStepDeed, IsDeed}
+use Rattle.laws_transfer.proofs.Kept.{filter_thins}
 use Rattle.laws_cases.proofs.Answers.Walk.{going}
 use Rattle.laws_cases.proofs.Lists.Members.{among_get_or}
-use Rattle.laws_cases.proofs.Lists.Thinned.{filter_thins}
 use Rattle.laws_cases.proofs.Lists.Frames.{each_set, each_push, each_mapped}
 use Rattle.laws_copies.proofs.Tags.{written_fits, pointed_fits, thinned_fits, snapped_fits, reopened_fits}
 use Rattle.laws_copies.proofs.Fresh.{client_fresh}

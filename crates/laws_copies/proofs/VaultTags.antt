@@ -11,8 +11,11 @@ use Rattle.sm_defs.specs.Missing.{is_missing_at, first_tag, rest, moved, first_n
 use Rattle.sm_model.specs.Standing.{Stored}
 use Rattle.sm_model.specs.TagsFit.{TagsFitIn}
 use Rattle.laws_transfer.proofs.Lists.{among_filter}
-use Rattle.laws_cases.proofs.Lists.Thinned.{filter_thins, thinned_among, thinned_differ}
-use Rattle.laws_copies.proofs.Tags.{stored_stands, numbers_below}
+use Rattle.laws_transfer.proofs.Landed.{below_numbers}
+use Rattle.laws_transfer.proofs.Asc.{among_each}
+use Rattle.laws_transfer.proofs.Kept.{filter_thins}
+use Rattle.laws_cases.proofs.Lists.Thinned.{thinned_among, thinned_differ}
+use Rattle.laws_copies.proofs.Tags.{stored_stands}
 use Rattle.laws_copies.proofs.Merged.{FitsTo, hole_tag}
 
 -- ---- block by block
@@ -95,15 +98,10 @@ left_differ : (ts : List ℕ) (m : Bool) → KeysDiffer itself ts → KeysDiffer
 left_differ ts true d = rest_differ ts d
 left_differ ts false d = d
 
-each_among : {X : Type 0} (P : X → Type 0) (xs : List X) (x : X) → AllByRecursion P xs → Among xs x → P x
-each_among P [] x h m = absurd m
-each_among P (y ∷ ys) x h (inl e) = subst P (sym e) h.0
-each_among P (y ∷ ys) x h (inr m) = each_among P ys x h.1 m
-
 -- the first tag is not among the others
 first_apart : (ts : List ℕ) (t : ℕ) → KeysDiffer itself ts → Among ts t → t ≡ first_number ts → Among (rest ts) t → ⊥
 first_apart [] t d m e k = absurd k
-first_apart (u ∷ us) t d m e k = each_among (λ y. ¬ (y ≡ u)) us t d.0 k e
+first_apart (u ∷ us) t d m e k = among_each (λ y. ¬ (y ≡ u)) us t d.0 k e
 
 head_first : (b : Block) (base : Image) (ts : List ℕ) (m z : Bool) → m ≡ true → (cond m (moved b (first_number ts)) (cond z hole (first_block base))).tag ≡ first_number ts
 head_first b base ts true z e = refl
@@ -180,7 +178,7 @@ blocks_fit v leg old base h f = record {
       where
         by : (slice_get base p ≡ Some b) ⊎ Among (free_tags v) b.tag → b.tag ≤ v.physical
         by (inl x) = f.in_range p b (h p b x)
-        by (inr x) = let k = numbers_below v.physical 1 b.tag (thinned_among (filter_thins _ (numbers 1 v.physical)) b.tag x) in omega arith
+        by (inr x) = let k = below_numbers v.physical 1 b.tag (thinned_among (filter_thins _ (numbers 1 v.physical)) b.tag x) in omega arith
 
 pub vault_fits : (v : Volume) (leg : Image) (bases : Bases) → ((p : ℕ) (b : Block) → slice_get bases.at_destination p ≡ Some b → Stored v p b) → TagsFitIn v → FitsTo v (vault_landing leg bases (free_tags v))
 vault_fits v leg bases h f = subst (FitsTo v) (sym (lands_so leg bases.at_source bases.at_destination (free_tags v))) (blocks_fit v leg bases.at_source bases.at_destination h f)

@@ -7,52 +7,57 @@
 ghost use Rattle.laws_copies.specs.Copies.{AnswersKeepTags, StepsKeepTags, DeedsKeepTags, RestartsKeepTags, AnswersKeepCopies, StepsKeepCopies, DeedsKeepCopies, RestartsKeepCopies};
 ghost use Rattle.laws_copies.specs.Numbers.{DeedsKeepNumbers, RestartsKeepNumbers};
 
-/// Each answer of a sound world leaves each volume with one place and one block for a number.
+/// After each answer of a sound world a number of a block stands for one place and one block in each
+/// volume.
 pub fn answers_keep_tags()
     ensures { AnswersKeepTags }
 {}
 
-/// So does each step.
+/// After each step of a sound world a number of a block stands for one place and one block in each
+/// volume.
 pub fn steps_keep_tags()
     ensures { StepsKeepTags }
 {}
 
-/// So does each deed.
+/// After each deed of a sound world a number of a block stands for one place and one block in each
+/// volume.
 pub fn deeds_keep_tags()
     ensures { DeedsKeepTags }
 {}
 
-/// So does each restart.
+/// Where a number of a block stands for one place and one block in each volume, so it does after a
+/// restart.
 pub fn restarts_keep_tags()
     ensures { RestartsKeepTags }
 {}
 
-/// Copies of one identity agree after each answer of a sound world.
+/// After each answer of a sound world copies of one identity agree.
 pub fn answers_keep_copies()
     ensures { AnswersKeepCopies }
 {}
 
-/// They agree after each step of a sound world.
+/// After each step of a sound world copies of one identity agree.
 pub fn steps_keep_copies()
     ensures { StepsKeepCopies }
 {}
 
-/// They agree after each deed that begins in a sound world.
+/// After each deed of a sound world copies of one identity agree.
 pub fn deeds_keep_copies()
     ensures { DeedsKeepCopies }
 {}
 
-/// They agree after a restart if they agreed before.
+/// Copies of one identity agree after a restart if they agreed before.
 pub fn restarts_keep_copies()
     ensures { RestartsKeepCopies }
 {}
 
-/// Each deed that begins in a sound world and can be asked for leaves identities of numbers that were given.
+/// Each deed of a sound world, of an event that can be asked for, leaves identities of numbers that
+/// were given.
 pub fn deeds_keep_numbers()
     ensures { DeedsKeepNumbers }
 {}
 
-/// So does a restart of a sound world.
+/// A restart of a sound world leaves identities of numbers that were given.
 pub fn restarts_keep_numbers()
     ensures { RestartsKeepNumbers }
 {}

@@ -20,11 +20,12 @@ use Rattle.sm_model.specs.OfTransfers.{with_transfer, without_transfer, halted, 
 use Rattle.sm_model.specs.Crossed.{IsReservedLeg, CrossedRelation, CrossedTransfer, transfer_number, Crossed}
 use Rattle.sm_model.specs.Sound.{SoundUp}
 use Rattle.laws_transfer.proofs.Lists.{among_append, among_filter}
+use Rattle.laws_transfer.proofs.Kept.{filter_thins}
 use Rattle.laws_cases.specs.Needs.{KeepsNeeded}
 use Rattle.laws_cases.proofs.Lists.Members.{among_set}
 use Rattle.laws_cases.proofs.Needed.Needs.{push_within}
 use Rattle.laws_cases.proofs.Answers.Changes.{RelationAt}
-use Rattle.laws_cases.proofs.Lists.Thinned.{filter_thins, thinned_differ}
+use Rattle.laws_cases.proofs.Lists.Thinned.{thinned_differ}
 use Rattle.laws_cases.proofs.Lists.Frames as frames
 use Rattle.laws_cases.proofs.Moves.Moves.{Aside, Turn, Start, Halve, Relates, IsMove, nothing, clock, new_policy, rule, creates, writes, drops, points, breaks, snaps, quiesces, resumes, ends, ends_settled, halts, halts_settled, starts, resyncs, deletes, releases, aside, relates, turns, begins, halves}
 use Rattle.laws_crossed.proofs.CrossedParts.{Differ, dest_key, to_apart, keys_thin, keys_fewer, keys_same, keys_new, crossed_volumes, crossed_set, counted, crossed_list, relation_counted, transfer_counted, SameEnds, relation_with, transfer_with}

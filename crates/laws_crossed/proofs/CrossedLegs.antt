@@ -6,7 +6,7 @@ use Rattle.sm_base.specs.declared.numbers.Kind.{Kind}
 use Rattle.sm_base.specs.declared.numbers.Kind.TheVariants.{Rw, Dp}
 use Rattle.sm_base.specs.declared.numbers.TransferKind.{TransferKind}
 use Rattle.sm_defs.specs.Classes.{has_class}
-use Rattle.sm_defs.specs.Words.{Among, KeysDiffer, after}
+use Rattle.sm_defs.specs.Words.{Among, KeysDiffer}
 use Rattle.sm_defs.specs.Common.{common}
 use Rattle.sm_defs.specs.Volume.{Snapshot, ident_of, idents, has, no_volume}
 use Rattle.sm_defs.specs.Relationship.{Relationship, is_mirror, sends_all}
@@ -18,11 +18,11 @@ use Rattle.sm_model.specs.Crossed.{IsReservedLeg}
 use Rattle.sm_model.specs.Sound.{SoundUp}
 use Rattle.laws_transfer.proofs.Lists.{from_map, among_append, among_right, has_from_copy}
 use Rattle.laws_transfer.specs.Sending.{IsNewIdent}
-use Rattle.laws_transfer.proofs.Kept.{common_newest}
+use Rattle.laws_transfer.proofs.Kept.{common_newest, filter_thins}
 use Rattle.laws_transfer.proofs.Sent.{legs_new}
 use Rattle.laws_cases.proofs.Lists.Members.{among_get_or}
 use Rattle.laws_copies.proofs.Tags.{differ_push}
-use Rattle.laws_cases.proofs.Lists.Thinned.{all_kept, filter_thins, thinned_among, thinned_differ}
+use Rattle.laws_cases.proofs.Lists.Thinned.{all_kept, thinned_among, thinned_differ, after_thins}
 use Rattle.laws_cases.proofs.Needed.Leaving.{from_base}
 use Rattle.laws_copies.proofs.Numbered.{made_lacked}
 
@@ -48,14 +48,6 @@ legs_at_source w r kind base there i n = go (next_legs w r base there).reserved 
         by sent each (inl m) = let (t, k, f) = each i m in inl (old t k.0 f)
         by sent each (inr (inl f)) = inr (e, f)
         by sent each (inr (inr m)) = absurd m
-
-after_thins : {X : Type 0} (p : X → Bool) (xs : List X) → Thinned (after p xs) xs
-after_thins p [] = end
-after_thins p (x ∷ xs) = go (p x) (after_thins p xs)
-  where
-    go : (b : Bool) → Thinned (after p xs) xs → Thinned (cond b xs (after p xs)) (x ∷ xs)
-    go true t = left_out (all_kept xs)
-    go false t = left_out t
 
 base_thins : (base : Option Ident) (ss : List Snapshot) → Thinned (after_base base ss) ss
 base_thins None ss = all_kept ss

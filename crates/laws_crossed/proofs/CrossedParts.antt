@@ -12,7 +12,7 @@ use Rattle.sm_defs.specs.Volume.{Volume, has, no_volume}
 use Rattle.sm_defs.specs.Relationship.{Relationship, Transfer, is_mirror}
 use Rattle.sm_defs.specs.World.{Up, volume_at, policy_at, with_volume}
 use Rattle.sm_model.specs.Crossed.{IsReservedLeg, CrossedRelation, CrossedTransfer, destination_of, with_destination_half, transfer_number, Crossed}
-use Rattle.laws_transfer.proofs.Asc.{among_each}
+use Rattle.laws_transfer.proofs.Asc.{among_each, each_among}
 use Rattle.laws_transfer.proofs.Kept.{base_at_source, base_at_destination}
 use Rattle.laws_cases.specs.Needs.{KeepsNeeded}
 use Rattle.laws_cases.proofs.Lists.Thinned.{all_kept}
@@ -70,10 +70,6 @@ new_among f (x ∷ xs) (suc k) q n m = go (cons_cases (f x) (filter_map f (slice
     go (inl e) h = inr (cons_among (f x) (filter_map f xs) n (inl e))
     go (inr m) h = by (h m)
 
-all_from : {X : Type 0} (P : X → Type 0) (xs : List X) → ((x : X) → Among xs x → P x) → AllByRecursion P xs
-all_from P [] h = tt
-all_from P (x ∷ xs) h = (h x (inl refl), all_from P xs (λ y m. h y (inr m)))
-
 abbrev pub Differ : List ℕ → Type 0
 Differ ns = KeysDiffer (λ (n : ℕ). n) ns
 
@@ -81,12 +77,12 @@ Differ ns = KeysDiffer (λ (n : ℕ). n) ns
 pub keys_new : {X : Type 0} (f : X → Option ℕ) (xs : List X) (k : ℕ) (q : X) (m : ℕ) → f q ≡ Some m → ((n : ℕ) → Among (filter_map f xs) n → ¬ (n ≡ m)) → Differ (filter_map f xs) → Differ (filter_map f (slice_set xs k q))
 keys_new f [] k q m e h d = tt
 keys_new f (x ∷ xs) zero q m e h d = subst (λ o. Differ (cons_option o (filter_map f xs))) (sym e)
-    (all_from (λ n. ¬ (n ≡ m)) (filter_map f xs) (λ n l. h n (cons_among (f x) (filter_map f xs) n (inr l))), tail_differ (f x) (filter_map f xs) d)
+    (each_among (λ n. ¬ (n ≡ m)) (filter_map f xs) (λ n l. h n (cons_among (f x) (filter_map f xs) n (inr l))), tail_differ (f x) (filter_map f xs) d)
 keys_new f (x ∷ xs) (suc k) q m e h d = go (f x) refl d (keys_new f xs k q m e (λ n l. h n (cons_among (f x) (filter_map f xs) n (inr l))) (tail_differ (f x) (filter_map f xs) d))
   where
     go : (o : Option ℕ) → f x ≡ o → Differ (cons_option o (filter_map f xs)) → Differ (filter_map f (slice_set xs k q)) → Differ (cons_option o (filter_map f (slice_set xs k q)))
     go None g d rest = rest
-    go (Some y) g d rest = (all_from (λ n. ¬ (n ≡ y)) (filter_map f (slice_set xs k q)) (λ n l i. by n i (new_among f xs k q n l)), rest)
+    go (Some y) g d rest = (each_among (λ n. ¬ (n ≡ y)) (filter_map f (slice_set xs k q)) (λ n l i. by n i (new_among f xs k q n l)), rest)
       where
         by : (n : ℕ) → n ≡ y → (f q ≡ Some n) ⊎ Among (filter_map f xs) n → ⊥
         by n i (inl j) = h y (cons_among (f x) (filter_map f xs) y (inl g)) (sym i ∙ sym (same_Some m n (sym e ∙ j)))

@@ -1,11 +1,10 @@
 -- Relationships fit their volumes and each other after each deed and each restart.
-use Rattle.std.proofs.Common.{◌≡◌, ◌⊎◌, ◌<◌, ℕ, length, map, Option, Some, None, refl, sym, ◌∙◌, ap, subst, inl, inr, arith}
+use Rattle.std.proofs.Common.{◌≡◌, ◌⊎◌, map, Option, Some, None, refl, sym, ◌∙◌, ap, subst, inl, inr, arith}
 use Rattle.std.specs.Option.{option_map}
 use Rattle.std.proofs.lemmas.Option.{same_Some}
 use Rattle.sm_defs.specs.Words.{Among}
-use Rattle.sm_defs.specs.Volume.{no_volume}
 use Rattle.sm_defs.specs.Relationship.{Relationship, Transfer}
-use Rattle.sm_defs.specs.World.{Up, volume_at}
+use Rattle.sm_defs.specs.World.{Up}
 use Rattle.sm_model.specs.declared.event.Event.{Event}
 use Rattle.sm_model.specs.World.{Deed}
 use Rattle.sm_model.specs.LegalRun.{IsDeed, IsStepDeed}
@@ -13,7 +12,7 @@ use Rattle.sm_model.specs.Opened.{opened, rejoined, restarted}
 use Rattle.sm_model.specs.Crossed.{CrossedRelation, CrossedTransfer, transfer_number, Crossed}
 use Rattle.sm_model.specs.Sound.{SoundUp}
 use Rattle.laws_transfer.proofs.Lists.{from_map}
-use Rattle.laws_cases.proofs.Needed.Needs.{mapped_at, mapped_length}
+use Rattle.laws_cases.proofs.Needed.Needs.{mapped_length}
 use Rattle.laws_cases.proofs.Needed.NeedsStay.{deeds_keep, restarts_keep}
 use Rattle.laws_cases.proofs.Moves.Moves.{IsMove}
 use Rattle.laws_cases.proofs.Moves.OfMoves.{deed_moves}
@@ -21,6 +20,7 @@ use Rattle.laws_crossed.proofs.CrossedParts.{Differ, dest_key, to_apart, crossed
 use Rattle.laws_crossed.proofs.CrossedKeys.{keys_mapped}
 use Rattle.laws_crossed.proofs.CrossedSteps.{steps_keep_crossed}
 use Rattle.laws_crossed.proofs.CrossedAnswers.{of_move}
+use Rattle.laws_cases.proofs.Answers.Opening.{Reopened, reopened_at}
 use Rattle.sm_defs.specs.Operations as operations
 
 pub deeds_keep_crossed : (e : Event) (d : Deed) → SoundUp d.old → IsDeed e d → Crossed d.new
@@ -31,12 +31,6 @@ deeds_keep_crossed e d s i = go (deed_moves e d i)
     go (inr m) = of_move d.old d.new s m (deeds_keep e d i)
 
 -- ---- restarts
-
-abbrev Reopened : Up → Up
-Reopened w = record w { volumes = map operations.opened w.volumes }
-
-reopened_at : (w : Up) (i : ℕ) → i < length w.volumes → volume_at (Reopened w) i ≡ operations.opened (volume_at w i)
-reopened_at w i l = mapped_at operations.opened w.volumes no_volume i l
 
 reopened_crossed : (w : Up) → Crossed w → Crossed (Reopened w)
 reopened_crossed w c = crossed_volumes w (Reopened w) (record {

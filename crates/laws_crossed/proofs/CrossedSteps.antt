@@ -1,5 +1,5 @@
 -- Relationships still fit their volumes and each other after each step.
-use Rattle.std.proofs.Common.{◌≡◌, ◌⊎◌, ℕ, Bool, true, false, List, [], ◌∷◌, Some, None, refl, sym, ◌∙◌, ap, subst, inl, inr, true≢false}
+use Rattle.std.proofs.Common.{◌≡◌, ◌⊎◌, ℕ, true, List, [], ◌∷◌, Some, None, refl, sym, ◌∙◌, ap, subst, inl, inr}
 use Rattle.std.specs.Prelude.{slice_get, slice_set}
 use Rattle.std.specs.List.{filter_map}
 use Rattle.std.specs.Option.{option_map}
@@ -9,18 +9,17 @@ use Rattle.sm_base.specs.declared.numbers.Kind.TheVariants.{Dp}
 use Rattle.sm_defs.specs.Words.{Among, KeysDiffer}
 use Rattle.sm_defs.specs.Volume.{Volume, Snapshot, has, no_volume, without}
 use Rattle.sm_defs.specs.Relationship.{Relationship, Transfer}
-use Rattle.sm_defs.specs.Legs.{made_ident}
 use Rattle.sm_defs.specs.World.{Up, volume_at, relation_at, with_relation, no_relation}
 use Rattle.sm_model.specs.OfTransfers.{with_transfer, without_transfer}
 use Rattle.sm_defs.specs.Operations.{with_snapshot}
 use Rattle.sm_model.specs.Running.{Running, IsRunning}
 use Rattle.sm_model.specs.Steps.{Effect, with_destination, interrupted, reverted, prepared_snapshot, published}
 use Rattle.sm_model.specs.Due.{StepKind, IsEffect, IsStep, by_transfer, by_tidy, reserved_leg, settled_relation, goes, is_tidied}
-use Rattle.sm_model.specs.Crossed.{IsReservedLeg, CrossedRelation, CrossedTransfer, transfer_number, Crossed}
+use Rattle.sm_model.specs.Crossed.{CrossedRelation, CrossedTransfer, transfer_number, Crossed}
 use Rattle.sm_model.specs.Sound.{SoundUp}
 use Rattle.laws_cases.specs.Needs.{KeepsNeeded}
 use Rattle.laws_cases.proofs.Answers.Walk.{going}
-use Rattle.laws_cases.proofs.Lists.Members.{among_set, among_get_or}
+use Rattle.laws_cases.proofs.Lists.Members.{among_set}
 use Rattle.laws_cases.proofs.Needed.Needs.{set_cases}
 use Rattle.laws_cases.proofs.Needed.NeedsStay.{steps_keep}
 use Rattle.laws_cases.proofs.Lists.Thinned.{thinned_differ}
@@ -28,6 +27,7 @@ use Rattle.laws_cases.proofs.Steps.Parties.{relation_stands}
 use Rattle.laws_cases.proofs.Steps.DueCases.{IsDue, due_revert, due_finish, due_settle, due_prepare, due_prune, due_publish, due_checkpoint, due_ship, kind_is_due}
 use Rattle.laws_crossed.proofs.CrossedParts.{dest_key, Apart, to_apart, keys_fewer, keys_same, volume_keeps, crossed_volumes, crossed_set, crossed_list, SameEnds, relation_with, transfer_with}
 use Rattle.laws_cases.proofs.Steps.RunningTransfers.{one_destination}
+use Rattle.laws_cases.proofs.Steps.LegsThere.{leg_on_both}
 
 -- ---- one relationship changes
 
@@ -84,23 +84,10 @@ module _ (w : Up) (k : ℕ) (x : Running) (s : SoundUp w) (r : IsRunning w k x) 
       (relation_with w x.relation (without_transfer x.relation) (ends refl refl refl refl) relation.halves relation.base_at_source relation.base_at_destination relation) (λ u e. absurd (cc))
       (apart_set w k x.relation (without_transfer x.relation) r.stands refl (inr refl) (to_apart w s.crossed))
 
-  -- a leg that the destination has is on the source
-  on_both : (i : Ident) → Among x.transfer.legs i → has (volume_at w x.relation.destination).snapshots i ≡ true → has (volume_at w x.relation.source).snapshots i ≡ true
-  on_both i m h = go (transfer.legs_at_source i m)
-    where
-      made : (b : Bool) → has (volume_at w x.relation.source).snapshots (made_ident x.relation.source x.transfer.number) ≡ b → x.transfer.reserved ≡ true → i ≡ made_ident x.relation.source x.transfer.number → has (volume_at w x.relation.source).snapshots i ≡ true
-      made true e z f = subst (λ j. has (volume_at w x.relation.source).snapshots j ≡ true) (sym f) e
-      made false e z f = absurd (true≢false (sym (subst (λ j. has (volume_at w x.relation.destination).snapshots j ≡ true) f h) ∙
-          s.numbers_stand.unmade x.relation x.transfer here r.transfer z e (volume_at w x.relation.destination) (among_get_or w.volumes x.relation.destination no_volume relation.destination)))
-
-      go : (has (volume_at w x.relation.source).snapshots i ≡ true) ⊎ IsReservedLeg x.relation x.transfer i → has (volume_at w x.relation.source).snapshots i ≡ true
-      go (inl e) = e
-      go (inr (z, f)) = made (has (volume_at w x.relation.source).snapshots (made_ident x.relation.source x.transfer.number)) refl z f
-
   -- the first leg becomes the base
   based : (i : Ident) (q : Relationship) → SameEnds x.relation q → q.source_half ≡ x.relation.source_half → q.base ≡ Some i → Among x.transfer.legs i → has (volume_at w x.relation.destination).snapshots i ≡ true → CrossedRelation w q
   based i q e h b m d = relation_with w x.relation q e (λ _ _. h ∙ transfer.at_source)
-      (λ j f _. subst (λ v. has (volume_at w v).snapshots j ≡ true) (sym e.source) (subst (λ a. has (volume_at w x.relation.source).snapshots a ≡ true) (same_Some i j (sym b ∙ f)) (on_both i m d)))
+      (λ j f _. subst (λ v. has (volume_at w v).snapshots j ≡ true) (sym e.source) (subst (λ a. has (volume_at w x.relation.source).snapshots a ≡ true) (same_Some i j (sym b ∙ f)) (leg_on_both w x.relation x.transfer i s here r.transfer m d)))
       (λ j f _. subst (λ v. has (volume_at w v).snapshots j ≡ true) (sym e.destination) (subst (λ a. has (volume_at w x.relation.destination).snapshots a ≡ true) (same_Some i j (sym b ∙ f)) d)) relation
 
   settles : (i : Ident) (later : List Ident) → x.transfer.legs ≡ i ∷ later → has x.destination.snapshots i ≡ true → Crossed (with_relation w k (settled_relation x i later))

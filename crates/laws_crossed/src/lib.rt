@@ -11,12 +11,12 @@ pub fn steps_keep_crossed()
     ensures { StepsKeepCrossed }
 {}
 
-/// So they do after each deed.
+/// After each deed of a sound world relationships and transfers fit their volumes and each other.
 pub fn deeds_keep_crossed()
     ensures { DeedsKeepCrossed }
 {}
 
-/// So they do after a restart of a sound world.
+/// After a restart of a sound world relationships and transfers fit their volumes and each other.
 pub fn restarts_keep_crossed()
     ensures { RestartsKeepCrossed }
 {}

@@ -30,11 +30,11 @@ use Rattle.sm_model.specs.DestinationsStand.{StandsAtSnapshot, newest_published,
 use Rattle.sm_model.specs.TransfersStand.{later, IsFirst, TransferStands}
 use Rattle.sm_model.specs.Sound.{SoundUp}
 use Rattle.laws_transfer.proofs.Lists.{among_right, from_map, filter_among, copy_from_has, has_from_copy}
-use Rattle.laws_transfer.proofs.Kept.{base_at_destination}
+use Rattle.laws_transfer.proofs.Kept.{base_at_destination, filter_thins}
 use Rattle.laws_cases.proofs.Answers.Walk.{going}
 use Rattle.laws_cases.proofs.Lists.Members.{among_get_or}
 use Rattle.laws_cases.proofs.Needed.Needs.{mapped_at}
-use Rattle.laws_cases.proofs.Lists.Thinned.{filter_thins, thinned_among}
+use Rattle.laws_cases.proofs.Lists.Thinned.{thinned_among}
 use Rattle.laws_cases.proofs.Answers.Plainly.{rw_from, not_both}
 use Rattle.laws_cases.proofs.Needed.Leaving.{same_member}
 use Rattle.laws_cases.proofs.Lists.Frames.{each_set, each_push, each_mapped}

@@ -31,19 +31,19 @@ use Rattle.sm_model.specs.Sound.{SoundUp}
 use Rattle.laws_transfer.specs.Dropping.{IsNewestCommon}
 use Rattle.laws_transfer.specs.Sending.{IsNewIdent}
 use Rattle.laws_transfer.proofs.Asc.{among_each}
-use Rattle.laws_transfer.proofs.Kept.{common_newest}
-use Rattle.laws_transfer.proofs.Lists.{among_append, among_right, from_map, copy_from_has, has_from_copy, same_is, is_same}
+use Rattle.laws_transfer.proofs.Kept.{common_newest, filter_thins}
+use Rattle.laws_transfer.proofs.Lists.{among_right, from_map, copy_from_has, has_from_copy, same_is, is_same}
 use Rattle.laws_cases.proofs.Answers.Walk.{going}
 use Rattle.laws_cases.proofs.Lists.Members.{among_get_or, set_at}
 use Rattle.laws_cases.proofs.Needed.Needs.{set_cases, push_within, mapped_at, split_at}
-use Rattle.laws_cases.proofs.Lists.Thinned.{filter_thins, thinned_among}
+use Rattle.laws_cases.proofs.Lists.Thinned.{thinned_among}
 use Rattle.laws_cases.proofs.Answers.Plainly.{relation_at_place, not_both, rw_if}
 use Rattle.laws_cases.proofs.Answers.OfRelationEvents.{goes_there, goes_half}
 use Rattle.laws_copies.proofs.Fresh.{leg_not_clients}
 use Rattle.laws_cases.proofs.Steps.Parties.{relation_stands, snapshot_is}
 use Rattle.laws_cases.proofs.Steps.DueCases.{Ahead, IsDue, due_revert, due_finish, due_settle, due_prepare, due_prune, due_publish, due_checkpoint, due_ship, kind_is_due, no_reason}
 use Rattle.laws_cases.proofs.Steps.Landing.{reverted_thins}
-use Rattle.laws_cases.proofs.Needed.Leaving.{after_among}
+use Rattle.laws_cases.proofs.Needed.Leaving.{after_among, lacks_fewer, lacks_more}
 use Rattle.laws_cases.proofs.Lists.TransferNumbers.{same_relation}
 use Rattle.laws_copies.proofs.Brings.{reserved_fresh}
 use Rattle.laws_copies.proofs.StepTags.{published_among, dp_there}
@@ -57,9 +57,6 @@ use Rattle.sm_defs.specs.Progress as progress
 
 -- ---- a transfer and its destination
 
-lacks_fewer : (ss ts : List Snapshot) (i : Ident) → ((s : Snapshot) → Among ts s → Among ss s) → has ss i ≡ false → has ts i ≡ false
-lacks_fewer ss ts i h e = false_from_ne_true (has ts i) (λ k. let (t, m, q) = copy_from_has ts i k in true≢false (sym (has_from_copy ss i (t, h t m, q)) ∙ e))
-
 -- the destination has fewer snapshots, and is writable only where it was
 stands_fewer : (v u : Volume) (r : Relationship) (t : Transfer) → (u.kind ≡ Rw → v.kind ≡ Rw) → ((s : Snapshot) → Among u.snapshots s → Among v.snapshots s) → TransferStands v r t → TransferStands u r t
 stands_fewer v u r t k h ts = record {
@@ -70,14 +67,6 @@ stands_fewer v u r t k h ts = record {
   ends = ts.ends;
   first_time = λ e s m. ts.first_time e s (h s m);
 }
-
-lacks_more : (ss : List Snapshot) (f : Snapshot) (i : Ident) → ¬ (i ≡ f.ident) → has ss i ≡ false → has (ss ++ f ∷ []) i ≡ false
-lacks_more ss f i n e = false_from_ne_true _ (λ k. let (t, m, q) = copy_from_has (ss ++ f ∷ []) i k in go t q (among_append ss (f ∷ []) t m))
-  where
-    go : (t : Snapshot) → t.ident ≡ i → Among ss t ⊎ Among (f ∷ []) t → ⊥
-    go t q (inl m) = true≢false (sym (has_from_copy ss i (t, m, q)) ∙ e)
-    go t q (inr (inl g)) = n (sym q ∙ ap (λ y. y.ident) g)
-    go t q (inr (inr m)) = m
 
 later_among : (is : List Ident) (i : Ident) → Among (later is) i → Among is i
 later_among [] i m = absurd m

@@ -13,23 +13,25 @@ pub fn answers_keep_destinations()
     ensures { AnswersKeepDestinations }
 {}
 
-/// So they do after each deed.
+/// After each deed of a sound world each read-only volume stands at one of its snapshots, and each
+/// destination shows what was published last.
 pub fn deeds_keep_destinations()
     ensures { DeedsKeepDestinations }
 {}
 
-/// So they do after a restart of a sound world.
+/// After a restart of a sound world each read-only volume stands at one of its snapshots, and each
+/// destination shows what was published last.
 pub fn restarts_keep_destinations()
     ensures { RestartsKeepDestinations }
 {}
 
-/// After each deed that begins in a sound world each standing transfer has a destination that it can go on
-/// to: a writable one only for a resync that shipped nothing, and none of its legs there but the first.
+/// After each deed of a sound world each standing transfer has a destination that it can go on to: a
+/// writable one only for a resync that shipped nothing, and none of its legs there but the first.
 pub fn deeds_keep_transfers()
     ensures { DeedsKeepTransfers }
 {}
 
-/// So it has after a restart of a sound world.
+/// After a restart of a sound world each standing transfer has a destination that it can go on to.
 pub fn restarts_keep_transfers()
     ensures { RestartsKeepTransfers }
 {}

@@ -23,7 +23,7 @@ use Rattle.laws_transfer.proofs.Lists.{copy_from_has, has_from_copy, among_appen
 use Rattle.laws_transfer.proofs.Asc.{among_each}
 use Rattle.laws_cases.proofs.Answers.Walk.{going}
 use Rattle.laws_cases.proofs.Lists.Members.{among_get_or}
-use Rattle.laws_cases.proofs.Steps.Parties.{relation_stands, destination_stands, snapshot_is, base_is}
+use Rattle.laws_cases.proofs.Steps.Parties.{relation_stands, destination_stands, snapshot_is, base_is, at_x}
 use Rattle.laws_cases.proofs.Steps.DueCases.{Ahead, IsDue, due_revert, due_finish, due_settle, due_prepare, due_prune, due_publish, due_checkpoint, due_ship, kind_is_due, tidy_within}
 use Rattle.laws_cases.proofs.Needed.Leaving.{Lost, KeepsAll, none_lost, lost_there, lost_here, without_lost, goes_lost, after_lost, lost_after}
 use Rattle.laws_drops.proofs.DropsOfEvents.{one_more}
@@ -63,9 +63,6 @@ keeps_all : (w : Up) → KeepsAll w w
 keeps_all w v i h = h
 
 -- ---- the steps that drop
-
-at_x : (w : Up) (k : ℕ) (x : Running) → IsRunning w k x → volume_at w x.relation.destination ≡ x.destination
-at_x w k x r = sym (ap (λ y. y.destination) r.is)
 
 abbrev LostOf : List Snapshot → List Snapshot → Ident → Type 0
 LostOf old new i = (has old i ≡ true) × (has new i ≡ false)

@@ -7,9 +7,9 @@ use Rattle.sm_defs.specs.Words.{Among}
 use Rattle.sm_defs.specs.Volume.{has}
 use Rattle.sm_defs.specs.World.{Up, volume_at}
 use Rattle.sm_model.specs.World.{World, up, down, Deed}
-use Rattle.sm_model.specs.Drops.{Drops, NamedFor}
+use Rattle.sm_model.specs.Drops.{NamedFor}
 use Rattle.sm_model.specs.LegalRun.{IsDeed, Fits, Run, restart_deed}
-use Rattle.sm_model.specs.Sound.{SoundUp, Sound}
+use Rattle.sm_model.specs.Sound.{Sound}
 use Rattle.laws_cases.specs.Needs.{KeepsNeeded}
 
 -- an answer or a step; or a restart of a world that was up, in which a disk failed, and which changed nothing
@@ -22,12 +22,6 @@ RunsDoDeeds = (start : Up) (entries : List Entry) (sides : List Side) (deeds : L
 abbrev pub RunsKeepTheNeeded : Type 0
 RunsKeepTheNeeded =
     (start : Up) (entries : List Entry) (sides : List Side) (deeds : List Deed) (last : World) → Run (up start) entries sides deeds last → (d : Deed) → Among deeds d → KeepsNeeded d.old d.new
-
--- of a deed that begins in a sound world
-abbrev pub RunsDropWhatIsNamed : Type 0
-RunsDropWhatIsNamed =
-    (start : Up) (entries : List Entry) (sides : List Side) (deeds : List Deed) (last : World) → Run (up start) entries sides deeds last →
-    (d : Deed) → Among deeds d → SoundUp d.old → (v : ℕ) (i : Ident) → Drops d v i ↔ NamedFor d d.event v i
 
 -- ---- each entry, with a deed or without
 

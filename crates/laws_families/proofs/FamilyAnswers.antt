@@ -1,8 +1,6 @@
 -- Vaults' own families still stand after each answer and each restart.
 use Rattle.std.proofs.Common.{◌≡◌, ◌≢◌, ◌⊎◌, ◌≤◌, ◌<◌, ℕ, true, false, List, [], ◌∷◌, ◌++◌, length, Option, Some, None, refl, sym, ◌∙◌, ap, subst, inl, inr, true≢false}
 use Rattle.std.specs.Prelude.{slice_set}
-use Rattle.std.proofs.lemmas.Bool.{false_from_ne_true}
-use Rattle.std.proofs.lemmas.Option.{same_Some}
 use Rattle.sm_base.specs.declared.numbers.Ident.{Ident}
 use Rattle.sm_base.specs.declared.numbers.Kind.TheVariants.{Rw, Dp}
 use Rattle.sm_defs.specs.Words.{Among}
@@ -15,19 +13,21 @@ use Rattle.sm_model.specs.OfTransfers.{with_transfer, without_transfer, halted, 
 use Rattle.sm_model.specs.Standing.{EachTransfer}
 use Rattle.sm_model.specs.FamiliesStand.{IsBaseOrFirst, IsVaultTo, FamilyStands}
 use Rattle.sm_model.specs.Sound.{SoundUp}
-use Rattle.laws_transfer.proofs.Lists.{copy_from_has, has_from_copy, among_append, among_filter}
+use Rattle.laws_transfer.proofs.Lists.{among_append, among_filter}
+use Rattle.laws_transfer.proofs.Kept.{filter_thins}
 use Rattle.laws_cases.specs.Needs.{KeepsNeeded}
 use Rattle.laws_cases.proofs.Lists.Members.{among_set, among_get_or}
 use Rattle.laws_cases.proofs.Needed.Needs.{beyond, within_or_beyond}
-use Rattle.laws_cases.proofs.Lists.Thinned.{filter_thins, thinned_among}
+use Rattle.laws_cases.proofs.Lists.Thinned.{thinned_among}
 use Rattle.laws_cases.proofs.Moves.Moves.{Aside, Turn, Start, Halve, IsMove, nothing, clock, new_policy, rule, creates, writes, drops, points, breaks, snaps, quiesces, resumes, ends, ends_settled, halts, halts_settled, starts, resyncs, deletes, releases, aside, relates, turns, begins, halves}
-use Rattle.laws_cases.proofs.Lists.MoveFrames.{OfEach, OfOne, each_set, each_push, each_halved, none_of}
+use Rattle.laws_cases.proofs.Lists.MoveFrames.{OfEach, OfOne, each_set, each_push, each_halved, none_of, one_of}
 use Rattle.laws_families.proofs.FamilyParts.{IsIdle, family_volume}
 use Rattle.laws_families.proofs.FamilyMoves.{IdleStay, family_policies, family_created, family_list, family_on, family_new}
 use Rattle.laws_cases.proofs.Answers.Plainly.{not_both}
 use Rattle.laws_cases.proofs.Moves.PoliciesStay.{aside_policies}
 use Rattle.laws_cases.proofs.Steps.LegsThere.{leg_on_both}
 use Rattle.laws_copies.proofs.Fresh.{leg_not_clients}
+use Rattle.laws_cases.proofs.Needed.Leaving.{lacks_fewer, lacks_more}
 use Rattle.sm_defs.specs.Progress.{settled}
 
 abbrev pub AllStand : Up → Type 0
@@ -72,17 +72,6 @@ pub no_leg_there : (w : Up) (i : ℕ) (v : Volume) → SoundUp w → volume_at w
 no_leg_there w i v s a k r t m e d j l =
     let same : volume_at w r.destination ≡ v = ap (volume_at w) (sym d) ∙ a in
     subst (λ y. has y.snapshots j ≡ false) same (((s.transfers_stand r t m e).writable (ap (λ y. y.kind) same ∙ k)).3 j l)
-
-lacks_fewer : (ss ts : List Snapshot) (i : Ident) → ((s : Snapshot) → Among ts s → Among ss s) → has ss i ≡ false → has ts i ≡ false
-lacks_fewer ss ts i h e = false_from_ne_true (has ts i) (λ k. let (t, m, q) = copy_from_has ts i k in true≢false (sym (has_from_copy ss i (t, h t m, q)) ∙ e))
-
-lacks_more : (ss : List Snapshot) (f : Snapshot) (i : Ident) → ¬ (i ≡ f.ident) → has ss i ≡ false → has (ss ++ f ∷ []) i ≡ false
-lacks_more ss f i n e = false_from_ne_true _ (λ k. let (t, m, q) = copy_from_has (ss ++ f ∷ []) i k in go t q (among_append ss (f ∷ []) t m))
-  where
-    go : (t : Snapshot) → t.ident ≡ i → Among ss t ⊎ Among (f ∷ []) t → ⊥
-    go t q (inl m) = true≢false (sym (has_from_copy ss i (t, m, q)) ∙ e)
-    go t q (inr (inl g)) = n (sym q ∙ ap (λ y. y.ident) g)
-    go t q (inr (inr m)) = m
 
 of_aside : (w u : Up) → SoundUp w → Aside w u → KeepsNeeded w u → AllStand u
 of_aside w u s nothing n = s.families_stand.transfers
@@ -155,9 +144,6 @@ idle_push w q h n l d some old p m v = go (among_append w.relations (q ∷ []) p
 
 -- ---- the changed relationship itself
 
-pub only : (w : Up) (q : Relationship) (u : Transfer) → q.transfer ≡ Some u → FamilyStands w q u → OfOne (FamilyStands w) q
-only w q u e h t f = subst (FamilyStands w q) (same_Some u t (sym e ∙ f)) h
-
 -- with its first leg settled, the base is on the source
 pub settled_stands : (w : Up) (r q : Relationship) (t u : Transfer) (i : Ident) (later : List Ident) → SoundUp w → Among w.relations r → r.transfer ≡ Some t → t.legs ≡ i ∷ later → has (volume_at w r.destination).snapshots i ≡ true →
     q.source ≡ r.source → q.destination ≡ r.destination → q.policy ≡ r.policy → q.base ≡ Some i → u.number ≡ t.number → u.legs ≡ later → FamilyStands w q u
@@ -180,16 +166,16 @@ same_stands w r q t u s m e es ed ep eb en ul = family_on w r q t u es ed ep en 
 
 of_turn : (w : Up) (r q : Relationship) → SoundUp w → Among w.relations r → Turn w r q → OfOne (FamilyStands w) q
 of_turn w r q s m (quiesces flag) = λ t e. same_stands w r (quiesced_as flag r) t t s m e refl refl refl refl refl refl
-of_turn w r q s m (resumes t e dp) = only w (with_transfer r (resumed t)) (resumed t) refl (same_stands w r (with_transfer r (resumed t)) t (resumed t) s m e refl refl refl refl refl refl)
+of_turn w r q s m (resumes t e dp) = one_of (FamilyStands w) (with_transfer r (resumed t)) (resumed t) refl (same_stands w r (with_transfer r (resumed t)) t (resumed t) s m e refl refl refl refl refl refl)
 of_turn w r q s m (ends t e n) = none_of (FamilyStands w) (without_transfer r) refl
 of_turn w r q s m (ends_settled t i later e l h) = none_of (FamilyStands w) (without_transfer (settled r t i later)) refl
-of_turn w r q s m (halts t i later e l h) = only w (with_transfer r (halted t)) (halted t) refl (same_stands w r (with_transfer r (halted t)) t (halted t) s m e refl refl refl refl refl refl)
-of_turn w r q s m (halts_settled t i later e l n h) = only w _ _ refl
+of_turn w r q s m (halts t i later e l h) = one_of (FamilyStands w) (with_transfer r (halted t)) (halted t) refl (same_stands w r (with_transfer r (halted t)) t (halted t) s m e refl refl refl refl refl refl)
+of_turn w r q s m (halts_settled t i later e l n h) = one_of (FamilyStands w) _ _ refl
     (settled_stands w r (with_transfer (settled r t i later) (halted (record t { legs = later; checkpoint = 0; landed = [] }))) t (halted (record t { legs = later; checkpoint = 0; landed = [] })) i later s m e l h refl refl refl refl refl refl)
 
 of_start : (w : Up) (r q : Relationship) → SoundUp w → Among w.relations r → Start w r q → OfOne (FamilyStands w) q
-of_start w r q s m (starts kind k none dp first some) = only w _ _ refl (family_new w _ _ s (s.crossed.relations r m).destination refl)
-of_start w r q s m (resyncs c e rw_there same) = only w _ _ refl (family_new w _ _ s (s.crossed.relations r m).destination refl)
+of_start w r q s m (starts kind k none dp first some) = one_of (FamilyStands w) _ _ refl (family_new w _ _ s (s.crossed.relations r m).destination refl)
+of_start w r q s m (resyncs c e rw_there same) = one_of (FamilyStands w) _ _ refl (family_new w _ _ s (s.crossed.relations r m).destination refl)
 
 of_halve : (w : Up) (r q : Relationship) → Halve w r q → OfOne (FamilyStands w) q
 of_halve w r q (deletes h none) = none_of (FamilyStands w) (without_destination r) none

@@ -15,11 +15,12 @@ use Rattle.sm_model.specs.Crossed.{CrossedRelation}
 use Rattle.sm_model.specs.TransfersStand.{IsFirst}
 use Rattle.sm_model.specs.Sound.{SoundUp}
 use Rattle.laws_transfer.proofs.Lists.{copy_from_has, has_from_copy, among_left, among_append}
+use Rattle.laws_transfer.proofs.Kept.{filter_thins}
 use Rattle.laws_cases.specs.Needs.{KeepsNeeded}
 use Rattle.laws_cases.proofs.Lists.Members.{among_get_or, length_set, set_at}
 use Rattle.laws_cases.proofs.Needed.Needs.{set_cases}
 use Rattle.laws_cases.proofs.Needed.NeededHere.{base_at_destination}
-use Rattle.laws_cases.proofs.Lists.Thinned.{filter_thins, thinned_among}
+use Rattle.laws_cases.proofs.Lists.Thinned.{thinned_among}
 use Rattle.laws_cases.proofs.Steps.Parties.{destination_stands, snapshot_is, lacked}
 use Rattle.laws_cases.proofs.Steps.DueCases.{Ahead}
 use Rattle.laws_copies.proofs.Brings.{reserved_fresh}

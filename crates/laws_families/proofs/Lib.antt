@@ -1,8 +1,8 @@
-pub mod FamiliesStay
-pub mod FamiliesSteps
+pub mod BlocksStay
+pub mod BlocksSteps
 pub mod FamilyParts
 pub mod FamilyMoves
 pub mod FamilyAnswers
 pub mod FamilyTakes
 pub mod FamilyPublish
-pub mod FamilyStays
+pub mod OwnFamiliesStay

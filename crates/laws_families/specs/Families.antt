@@ -12,14 +12,14 @@ use Rattle.sm_model.specs.FamiliesAgree.{FamiliesAgree}
 use Rattle.sm_model.specs.FamiliesStand.{IsFamily, FamiliesStand}
 use Rattle.sm_model.specs.Sound.{SoundUp}
 
-abbrev pub AnswersKeepFamilies : Type 0
-AnswersKeepFamilies = (w : Up) (e : Event) (reached : Reached) → SoundUp w → answer w e ≡ Some (Ok reached) → FamiliesAgree reached.world
+abbrev pub AnswersKeepFamilyBlocks : Type 0
+AnswersKeepFamilyBlocks = (w : Up) (e : Event) (reached : Reached) → SoundUp w → answer w e ≡ Some (Ok reached) → FamiliesAgree reached.world
 
-abbrev pub DeedsKeepFamilies : Type 0
-DeedsKeepFamilies = (e : Event) (d : Deed) → SoundUp d.old → IsDeed e d → FamiliesAgree d.new
+abbrev pub DeedsKeepFamilyBlocks : Type 0
+DeedsKeepFamilyBlocks = (e : Event) (d : Deed) → SoundUp d.old → IsDeed e d → FamiliesAgree d.new
 
-abbrev pub RestartsKeepFamilies : Type 0
-RestartsKeepFamilies = (w : Up) → FamiliesAgree w → FamiliesAgree (opened w)
+abbrev pub RestartsKeepFamilyBlocks : Type 0
+RestartsKeepFamilyBlocks = (w : Up) → FamiliesAgree w → FamiliesAgree (opened w)
 
 -- each volume's family is a volume's number, or belongs to a transfer whose number was given
 abbrev pub FamiliesGiven : Up → Type 0
@@ -31,8 +31,8 @@ DeedsKeepFamilyNumbers = (e : Event) (d : Deed) → SoundUp d.old → IsDeed e d
 abbrev pub RestartsKeepFamilyNumbers : Type 0
 RestartsKeepFamilyNumbers = (w : Up) → FamiliesGiven w → FamiliesGiven (opened w)
 
-abbrev pub DeedsKeepAllFamilies : Type 0
-DeedsKeepAllFamilies = (e : Event) (d : Deed) → SoundUp d.old → IsDeed e d → FamiliesStand d.new
+abbrev pub DeedsKeepOwnFamilies : Type 0
+DeedsKeepOwnFamilies = (e : Event) (d : Deed) → SoundUp d.old → IsDeed e d → FamiliesStand d.new
 
-abbrev pub RestartsKeepAllFamilies : Type 0
-RestartsKeepAllFamilies = (w : Up) → SoundUp w → FamiliesStand (opened w)
+abbrev pub RestartsKeepOwnFamilies : Type 0
+RestartsKeepOwnFamilies = (w : Up) → SoundUp w → FamiliesStand (opened w)

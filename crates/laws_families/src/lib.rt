@@ -1,43 +1,48 @@
-//! Volumes of one family agree in their snapshots, and a vault's transfer has a family of its own: kept by each
-//! answer, each step and each restart.
+//! Copies in one family have the same numbers of blocks, families are of numbers that were given, and a vault's
+//! own family stands apart: kept by each answer, each step and each restart.
 //!
 //! Each law is what a function without code ensures.
 #![tactic(auto)]
 
-ghost use Rattle.laws_families.specs.Families.{AnswersKeepFamilies, DeedsKeepFamilies, RestartsKeepFamilies, DeedsKeepFamilyNumbers, RestartsKeepFamilyNumbers, DeedsKeepAllFamilies, RestartsKeepAllFamilies};
+ghost use Rattle.laws_families.specs.Families.{AnswersKeepFamilyBlocks, DeedsKeepFamilyBlocks, RestartsKeepFamilyBlocks, DeedsKeepFamilyNumbers, RestartsKeepFamilyNumbers, DeedsKeepOwnFamilies, RestartsKeepOwnFamilies};
 
-/// Copies of one identity in one family have the same numbers of blocks after each answer of a sound world.
-pub fn answers_keep_families()
-    ensures { AnswersKeepFamilies }
+/// After each answer of a sound world copies of one identity in one family have the same numbers of
+/// blocks.
+pub fn answers_keep_family_blocks()
+    ensures { AnswersKeepFamilyBlocks }
 {}
 
-/// So they have after each deed.
-pub fn deeds_keep_families()
-    ensures { DeedsKeepFamilies }
+/// After each deed of a sound world copies of one identity in one family have the same numbers of
+/// blocks.
+pub fn deeds_keep_family_blocks()
+    ensures { DeedsKeepFamilyBlocks }
 {}
 
-/// So they have after a restart if they had before.
-pub fn restarts_keep_families()
-    ensures { RestartsKeepFamilies }
+/// Copies of one identity in one family have the same numbers of blocks after a restart if they had
+/// before.
+pub fn restarts_keep_family_blocks()
+    ensures { RestartsKeepFamilyBlocks }
 {}
 
-/// After each deed that begins in a sound world each family is of a number that was given.
+/// After each deed of a sound world each family is a volume's number, or belongs to a transfer whose
+/// number was given.
 pub fn deeds_keep_family_numbers()
     ensures { DeedsKeepFamilyNumbers }
 {}
 
-/// So it is after a restart.
+/// Where each family is of a number that was given, so it is after a restart.
 pub fn restarts_keep_family_numbers()
     ensures { RestartsKeepFamilyNumbers }
 {}
 
-/// After each deed that begins in a sound world families are of numbers that were given, and a vault's own
-/// family stands apart.
-pub fn deeds_keep_all_families()
-    ensures { DeedsKeepAllFamilies }
+/// After each deed of a sound world families are of numbers that were given, and a vault's own family
+/// stands apart.
+pub fn deeds_keep_own_families()
+    ensures { DeedsKeepOwnFamilies }
 {}
 
-/// So it is after a restart of a sound world.
-pub fn restarts_keep_all_families()
-    ensures { RestartsKeepAllFamilies }
+/// After a restart of a sound world families are of numbers that were given, and a vault's own family
+/// stands apart.
+pub fn restarts_keep_own_families()
+    ensures { RestartsKeepOwnFamilies }
 {}

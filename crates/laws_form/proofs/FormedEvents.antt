@@ -27,9 +27,9 @@ use Rattle.sm_model.specs.OfRelations.{has_a_half}
 use Rattle.sm_model.specs.OfTransfers as transfers
 use Rattle.sm_model.specs.Formed.{FormedTransfer, Formed, path_of, disk_of, policy_name}
 use Rattle.sm_model.specs.Sound.{SoundUp}
+use Rattle.laws_transfer.proofs.Kept.{filter_thins}
 use Rattle.laws_cases.proofs.Answers.Walk.{OfOk, past, with_found, with_ok, with_held, with_target, whether_so, now, passing, passed}
 use Rattle.laws_cases.proofs.Lists.Members.{found_among, found_at, among_get_or}
-use Rattle.laws_cases.proofs.Lists.Thinned.{filter_thins}
 use Rattle.laws_cases.proofs.Answers.Changes.{VolumeAt, RelationAt}
 use Rattle.laws_cases.proofs.Answers.Plainly.{volume_at_place, relation_at_place}
 use Rattle.laws_cases.proofs.Answers.OfVolumeEvents.{named_at_place}

@@ -13,15 +13,15 @@ use Rattle.sm_base.specs.declared.numbers.PolicyKind.TheVariants.{AsyncMirror, V
 use Rattle.sm_base.specs.declared.numbers.TransferKind.{TransferKind}
 use Rattle.sm_base.specs.declared.limits.TheConstants.{MOST_RULES, MOST_KEPT, MOST_SNAPSHOTS}
 use Rattle.sm_defs.specs.Classes.{has_class}
-use Rattle.sm_defs.specs.Words.{Among, after}
-use Rattle.sm_defs.specs.Thinned.{Thinned, end, kept, left_out}
+use Rattle.sm_defs.specs.Words.{Among}
 use Rattle.sm_defs.specs.Volume.{Snapshot, numbers, has, idents}
 use Rattle.sm_defs.specs.Relationship.{Rule, Policy, Relationship, Transfer, rule_for, is_mirror, sends_all}
 use Rattle.sm_defs.specs.Legs.{Legs, Source, after_base, candidates, only_newest, made_ident, mirror_legs, vault_legs, legs}
 use Rattle.sm_model.specs.Formed.{FormedRule, FormedPolicy, FormedTransfer, AreAdded}
 use Rattle.sm_model.specs.OfTransfers.{new_transfer}
+use Rattle.laws_transfer.proofs.Kept.{filter_thins}
 use Rattle.laws_cases.proofs.Lists.Frames.{each_push}
-use Rattle.laws_cases.proofs.Lists.Thinned.{filter_thins, thinned_shorter}
+use Rattle.laws_cases.proofs.Lists.Thinned.{thinned_shorter, after_thins}
 use Rattle.sm_defs.specs.Rules.{first_rules, new_policy, is_wrong_rule, is_bad_keep, with_rule}
 use Rattle.sm_defs.specs.Progress.{settled}
 
@@ -99,18 +99,6 @@ pub formed_stopped : (r q : Relationship) (t u : Transfer) → Continues r q t u
 formed_stopped r q t u c e i l f = record { unpruned = λ n. e; landed = λ n. i; reserved = reserved_last r q t u c f; few = rw (c.legs) f.few; checkpoint = l }
 
 -- ---- legs
-
-after_thins : {X : Type 0} (p : X → Bool) (xs : List X) → Thinned (after p xs) xs
-after_thins p [] = end
-after_thins {X} p (x ∷ xs) = go (p x) (after_thins p xs)
-  where
-    all : (ys : List X) → Thinned ys ys
-    all [] = end
-    all (y ∷ ys) = kept (all ys)
-
-    go : (b : Bool) → Thinned (after p xs) xs → Thinned (cond b xs (after p xs)) (x ∷ xs)
-    go true t = left_out (all xs)
-    go false t = left_out t
 
 fewer_after : (base : Option Ident) (ss : List Snapshot) → length (after_base base ss) ≤ length ss
 fewer_after None ss = omega arith

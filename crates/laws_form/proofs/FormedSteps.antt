@@ -32,9 +32,10 @@ use Rattle.sm_model.specs.LegsFit.{FirstFits}
 use Rattle.sm_model.specs.Sound.{SoundUp}
 use Rattle.laws_transfer.proofs.Lists.{among_map}
 use Rattle.laws_transfer.proofs.Landed.{Lands, lands_free, free_ascend}
+use Rattle.laws_transfer.proofs.Kept.{filter_thins}
 use Rattle.laws_cases.proofs.Answers.Walk.{going}
 use Rattle.laws_cases.proofs.Lists.Members.{among_get_or}
-use Rattle.laws_cases.proofs.Lists.Thinned.{filter_thins, thinned_among, thinned_shorter}
+use Rattle.laws_cases.proofs.Lists.Thinned.{thinned_among, thinned_shorter}
 use Rattle.laws_cases.proofs.Steps.Parties.{relation_stands, source_stands, destination_stands, snapshot_is}
 use Rattle.laws_cases.proofs.Steps.DueCases.{Ahead, IsDue, due_revert, due_finish, due_settle, due_prepare, due_prune, due_publish, due_checkpoint, due_ship, kind_is_due, no_reason, tidy_within}
 use Rattle.laws_cases.proofs.Steps.Landing.{reverted_thins, base_member, in_snapshot}

@@ -15,8 +15,9 @@ use Rattle.sm_model.specs.OfPolicies.{with_new_policy, with_policy, at_time}
 use Rattle.sm_model.specs.OfRelations.{has_a_half, with_halves}
 use Rattle.sm_model.specs.Formed.{FormedVolume, FormedPolicy, FormedTransfer, FormedRelation, NumbersAscend, Formed, path_of, disk_of, policy_name}
 use Rattle.laws_transfer.proofs.Lists.{among_filter}
+use Rattle.laws_transfer.proofs.Kept.{filter_thins}
 use Rattle.laws_cases.proofs.Lists.Members.{among_set}
-use Rattle.laws_cases.proofs.Lists.Thinned.{filter_thins, thinned_each, thinned_shorter}
+use Rattle.laws_cases.proofs.Lists.Thinned.{thinned_each, thinned_shorter}
 use Rattle.laws_cases.proofs.Lists.Frames.{each_set, each_push, each_mapped, differ_set}
 use Rattle.laws_copies.proofs.Tags.{differ_push, each_pushed}
 use Rattle.laws_cases.proofs.Needed.Needs.{mapped_length}

@@ -1,26 +1,17 @@
 -- Where not all blocks are used, a number is free.
-use Rattle.std.proofs.Common.{◌≡◌, ◌≢◌, ◌⊎◌, ◌<◌, ◌≤◌, ◌+◌, ℕ, zero, suc, ◌==◌, ◌||◌, Bool, true, false, not, cond, List, [], ◌∷◌, ◌++◌, length, Some, refl, inl, inr, eqb-true, arith}
+use Rattle.std.proofs.Common.{◌≡◌, ◌≢◌, ◌⊎◌, ◌<◌, ◌≤◌, ℕ, zero, suc, ◌==◌, ◌||◌, Bool, true, false, not, cond, List, [], ◌∷◌, ◌++◌, length, Some, refl, inl, inr, eqb-true, arith}
 use Rattle.std.specs.Prelude.{slice_get}
 use Rattle.std.specs.List.{list_any, filter, flat_map}
-use Rattle.std.proofs.lemmas.Bool.{or_cases, or_left, or_right, not-false, cases_order}
+use Rattle.std.proofs.lemmas.Bool.{or_cases, or_left, or_right, not-false}
 use Rattle.sm_defs.specs.Words.{Among}
 use Rattle.sm_defs.specs.Image.{Block, Image, tags, stands}
 use Rattle.sm_defs.specs.Volume.{Volume, images_of, tags_of, numbers, free_tags, free, used}
 use Rattle.sm_model.specs.TagsFit.{TagsFitIn}
 use Rattle.sm_defs.specs.Operations.{first_of}
 use Rattle.laws_transfer.proofs.Lists.{among_stands}
-use Rattle.laws_transfer.proofs.Landed.{free_ascend}
+use Rattle.laws_transfer.proofs.Landed.{free_ascend, to_numbers}
 use Rattle.laws_copies.proofs.Tags.{any_left, any_right}
 use Rattle.laws_form.proofs.Pigeonhole.{at_least, at_most, distinct_append}
-
-all_go : (n t k : ℕ) → t ≤ k → k < t + suc n → (suc t ≤ k → k < suc t + n → Among (numbers (suc t) n) k) → (k ≡ t) ⊎ ((k < t) ⊎ (t < k)) → Among (numbers t (suc n)) k
-all_go n t k h l ih (inl e) = inl e
-all_go n t k h l ih (inr (inl b)) = absurd (omega arith)
-all_go n t k h l ih (inr (inr b)) = inr (ih (omega arith) (omega arith))
-
-all_numbers : (n t k : ℕ) → t ≤ k → k < t + n → Among (numbers t n) k
-all_numbers zero t k h l = absurd (omega arith)
-all_numbers (suc n) t k h l = all_go n t k h l (all_numbers n (suc t) k) (cases_order k t)
 
 none_go : (p : ℕ → Bool) (x t : ℕ) (xs : List ℕ) (b : Bool) → p x ≡ b → x ≢ 0 → first_of (cond b (x ∷ filter p xs) (filter p xs)) ≡ 0 →
     (first_of (filter p xs) ≡ 0 → Among xs t → p t ≡ false) → (t ≡ x) ⊎ Among xs t → p t ≡ false
@@ -75,7 +66,7 @@ pub none_free : (v : Volume) → TagsFitIn v → first_of (free_tags v) ≡ 0 �
 none_free v f z = both_bounds (used v) v.physical (at_most v.physical (tags_of v) (stands_in_range v f)) (at_least v.physical (tags_of v) all)
   where
     all : (t : ℕ) → 0 < t → t ≤ v.physical → stands t (tags_of v) ≡ true
-    all t a b = not-false (stands t (tags_of v)) (none_passes (λ t. not (stands t (tags_of v))) v.physical 0 t z (all_numbers v.physical 1 t (omega (arith, a)) (omega (arith, b))))
+    all t a b = not-false (stands t (tags_of v)) (none_passes (λ t. not (stands t (tags_of v))) v.physical 0 t z (to_numbers v.physical 1 t (omega (arith, a)) (omega (arith, b))))
 
 -- as many numbers are free as blocks are not used
 pub free_long : (v : Volume) → free v ≤ length (free_tags v)

@@ -11,12 +11,13 @@ pub fn answers_keep_form()
     ensures { AnswersKeepForm }
 {}
 
-/// So does each deed.
+/// Each deed of a sound world, of an event that a script, a worker or the report can ask for, leaves a
+/// world that is formed.
 pub fn deeds_keep_form()
     ensures { DeedsKeepForm }
 {}
 
-/// A world that is formed is so after a restart.
+/// A world that is formed is so after a restart, sound or not.
 pub fn restarts_keep_form()
     ensures { RestartsKeepForm }
 {}

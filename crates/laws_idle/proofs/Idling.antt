@@ -15,13 +15,14 @@ use Rattle.sm_model.specs.Steps.{Effect, cost}
 use Rattle.sm_model.specs.Due.{StepKind, revert, finish, settle, prepare, prune, publish, checkpoint, ship, kind_due, by_transfer, by_tidy, tidy_due, IsIdle}
 use Rattle.sm_model.specs.Choice.{running_from, running, taken, shippable, shipped, effect_for, chosen_for, chosen_of, tidied, chosen}
 use Rattle.laws_transfer.proofs.Lists.{any_among}
+use Rattle.laws_transfer.proofs.Landed.{to_numbers}
 use Rattle.laws_idle.specs.Idling.{EndsAtBase}
 use Rattle.laws_cases.proofs.Lists.Members.{find_none}
 use Rattle.laws_cases.proofs.Steps.Parties.{relation_stands}
 use Rattle.laws_cases.proofs.Steps.DueCases.{IsDue, due_ship, kind_is_due, tidy_within}
 use Rattle.laws_idle.proofs.Choosing.{IsIn, running_is, taken_among, is_running_there, chosen_is_due}
 use Rattle.laws_idle.proofs.HasStep.{has_step}
-use Rattle.laws_cases.proofs.Steps.Shipping.{to_numbers, some_shippable}
+use Rattle.laws_cases.proofs.Steps.Shipping.{some_shippable}
 
 get_none : {X : Type 0} (xs : List X) (i : ℕ) → i < length xs → slice_get xs i ≡ None → ⊥
 get_none [] i h e = absurd (omega arith)
@@ -96,7 +97,7 @@ of_choice : (w : Up) (a : ℕ) → SoundUp w → EndsAtBase w → (o : Option (F
 of_choice w a s n None t c = nothing_due w (taken_none a (running w) t) (tidied_none w _ c)
 of_choice w a s n (Some f) t c = absurd (chosen_there w a f s n (running_is 0 w.relations f (taken_among a (running w) f t)) f.item.transfer refl c)
 
-none_chosen : (w : Up) (a : ℕ) → IsIdle w → (o : Option Effect) → chosen w a ≡ o → o ≡ None
+pub none_chosen : (w : Up) (a : ℕ) → IsIdle w → (o : Option Effect) → chosen w a ≡ o → o ≡ None
 none_chosen w a h None e = refl
 none_chosen w a h (Some effect) e = absurd (h effect (chosen_is_due w a effect e))
 

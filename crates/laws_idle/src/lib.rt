@@ -6,17 +6,17 @@
 
 ghost use Rattle.laws_idle.specs.Idling.{ChosenIsDue, DeedsKeepEnds, RestartsKeepEnds, RunningTransfersHaveSteps, IdleIsExact};
 
-/// The step that this program chooses for an actor is due.
+/// The step that this program chooses for an actor is due, in every world.
 pub fn chosen_is_due()
     ensures { ChosenIsDue }
 {}
 
-/// Where each transfer has a base or a leg, so it is after each deed.
+/// Where each transfer without a base has a leg, so it is after each deed.
 pub fn deeds_keep_ends()
     ensures { DeedsKeepEnds }
 {}
 
-/// So it is after each restart.
+/// Where each transfer without a base has a leg, so it is after a restart.
 pub fn restarts_keep_ends()
     ensures { RestartsKeepEnds }
 {}
@@ -26,7 +26,7 @@ pub fn running_transfers_have_steps()
     ensures { RunningTransfersHaveSteps }
 {}
 
-/// In a sound world the program finds no step exactly where none is due.
+/// In a sound world the program finds no step for an actor exactly where none is due for anybody.
 pub fn idle_is_exact()
     ensures { IdleIsExact }
 {}

@@ -1,6 +1,5 @@
 -- What was shipped still fits after each answer.
 use Rattle.std.proofs.Common.{◌≡◌, ◌⊎◌, ◌<◌, ℕ, true, false, [], length, Option, Some, None, refl, sym, ◌∙◌, ap, subst, inl, inr, true≢false}
-use Rattle.std.proofs.lemmas.Option.{same_Some}
 use Rattle.sm_base.specs.declared.numbers.Ident.{Ident}
 use Rattle.sm_base.specs.declared.numbers.Kind.TheVariants.{Rw}
 use Rattle.sm_defs.specs.Needed.{needed}
@@ -24,7 +23,7 @@ use Rattle.laws_cases.proofs.Answers.Plainly.{relation_at_place}
 use Rattle.laws_cases.proofs.Steps.Costs.{prefix_at_most}
 use Rattle.laws_cases.proofs.Moves.Moves.{Aside, Turn, Start, Halve, IsMove, nothing, clock, new_policy, rule, creates, writes, drops, points, breaks, snaps, quiesces, resumes, ends, ends_settled, halts, halts_settled, starts, resyncs, deletes, releases, aside, relates, turns, begins, halves}
 use Rattle.laws_cases.proofs.Moves.OfMoves.{aside_relations}
-use Rattle.laws_cases.proofs.Lists.MoveFrames.{OfOne, each_set, each_push, each_halved, none_of}
+use Rattle.laws_cases.proofs.Lists.MoveFrames.{OfOne, each_set, each_push, each_halved, none_of, one_of}
 use Rattle.laws_copies.proofs.Arriving as arriving
 use Rattle.laws_copies.proofs.Arriving.{IsOldOrNew, Arrives}
 use Rattle.laws_legs.proofs.FitParts.{Alike, Rests, fits_rested, fits_alike, fits_unbegun}
@@ -138,23 +137,20 @@ resumed_rests t u l c d p = record { legs = l; landed = d ∙ ap (numbers 0) (sy
 halted_rests : (t : Transfer) → Rests t (halted t)
 halted_rests t = record { legs = refl; landed = refl; unpruned = refl; began = λ n. inr (λ z. n (ap landed_prefix z)); near = λ far _ h. prefix_at_most t.landed far h }
 
-pub only : (w : Up) (q : Relationship) (u : Transfer) → q.transfer ≡ Some u → FitsIn w q u → OfOne (FitsIn w) q
-only w q u e h t f = subst (FitsIn w q) (same_Some u t (sym e ∙ f)) h
-
 of_turn : (w : Up) (r q : Relationship) → SoundUp w → Among w.relations r → Turn w r q → OfOne (FitsIn w) q
 of_turn w r q s m (quiesces flag) = λ t e. fits_alike (running_in w r t) (running_in w (quiesced_as flag r) t) (alike_turned w r (quiesced_as flag r) t t refl refl refl refl) refl (s.legs_fit r t m e)
-of_turn w r q s m (resumes t e dp) = only w (with_transfer r (resumed t)) (resumed t) refl
+of_turn w r q s m (resumes t e dp) = one_of (FitsIn w) (with_transfer r (resumed t)) (resumed t) refl
     (fits_rested (running_in w r t) (running_in w (with_transfer r (resumed t)) (resumed t)) (alike_turned w r (with_transfer r (resumed t)) t (resumed t) refl refl refl refl) (resumed_rests t (resumed t) refl refl refl refl) (s.legs_fit r t m e))
 of_turn w r q s m (ends t e n) = none_of (FitsIn w) (without_transfer r) refl
 of_turn w r q s m (ends_settled t i later e l h) = none_of (FitsIn w) (without_transfer (settled r t i later)) refl
-of_turn w r q s m (halts t i later e l h) = only w (with_transfer r (halted t)) (halted t) refl
+of_turn w r q s m (halts t i later e l h) = one_of (FitsIn w) (with_transfer r (halted t)) (halted t) refl
     (fits_rested (running_in w r t) (running_in w (with_transfer r (halted t)) (halted t)) (alike_turned w r (with_transfer r (halted t)) t (halted t) refl refl refl refl) (halted_rests t) (s.legs_fit r t m e))
 of_turn w r q s m (halts_settled t i later e l n h) = let v : Transfer = halted (record t { legs = later; checkpoint = 0; landed = [] }) in
-    only w (with_transfer (settled r t i later) v) v refl (fits_unbegun (running_in w (with_transfer (settled r t i later) v) v) refl refl (λ _ p. absurd (true≢false (sym p))))
+    one_of (FitsIn w) (with_transfer (settled r t i later) v) v refl (fits_unbegun (running_in w (with_transfer (settled r t i later) v) v) refl refl (λ _ p. absurd (true≢false (sym p))))
 
 of_start : (w : Up) (r q : Relationship) → Start w r q → OfOne (FitsIn w) q
-of_start w r q (starts kind k none dp first some) = only w _ _ refl (fits_unbegun _ refl refl (λ _ p. absurd (true≢false (sym p))))
-of_start w r q (resyncs c e rw_there same) = only w _ _ refl (fits_unbegun _ refl refl (λ _ p. absurd (true≢false (sym p))))
+of_start w r q (starts kind k none dp first some) = one_of (FitsIn w) _ _ refl (fits_unbegun _ refl refl (λ _ p. absurd (true≢false (sym p))))
+of_start w r q (resyncs c e rw_there same) = one_of (FitsIn w) _ _ refl (fits_unbegun _ refl refl (λ _ p. absurd (true≢false (sym p))))
 
 of_halve : (w : Up) (r q : Relationship) → Halve w r q → OfOne (FitsIn w) q
 of_halve w r q (deletes h none) = none_of (FitsIn w) (without_destination r) none

@@ -10,7 +10,7 @@ use Rattle.sm_defs.specs.Relationship.{Transfer, is_mirror}
 use Rattle.sm_model.specs.LegsFit.{IsUnderWay, IsChecked, FitsSource, FirstFits, InWindow, LegsFitFor}
 use Rattle.sm_model.specs.Running.{Running}
 use Rattle.sm_model.specs.Steps.{snapshot_of, image_or_none, bases, cost}
-use Rattle.laws_cases.proofs.Steps.Shipping.{to_numbers, below_numbers}
+use Rattle.laws_transfer.proofs.Landed.{to_numbers, below_numbers}
 
 -- ---- costs depend on the policy's kind, the destination and the base
 

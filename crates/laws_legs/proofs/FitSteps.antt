@@ -42,10 +42,10 @@ use Rattle.laws_copies.proofs.Arriving as arriving
 use Rattle.laws_cases.proofs.Steps.DueCases.{Ahead, IsDue, due_revert, due_finish, due_settle, due_prepare, due_prune, due_publish, due_checkpoint, due_ship, kind_is_due, no_reason}
 use Rattle.laws_cases.proofs.Steps.Landing.{in_snapshot}
 use Rattle.laws_copies.proofs.StepTags.{published_among, checked}
-use Rattle.laws_cases.proofs.Lists.MoveFrames.{OfOne, each_set, none_of}
+use Rattle.laws_cases.proofs.Lists.MoveFrames.{OfOne, each_set, none_of, one_of}
 use Rattle.laws_copies.proofs.Arriving.{Arrives}
 use Rattle.laws_legs.proofs.FitParts.{Alike, fits_rested, fits_unbegun}
-use Rattle.laws_legs.proofs.FitAnswers.{FitsIn, untouched_rw, of_move, fits_framed, resumed_rests, only}
+use Rattle.laws_legs.proofs.FitAnswers.{FitsIn, untouched_rw, of_move, fits_framed, resumed_rests}
 use Rattle.laws_legs.proofs.FitShips.{fits_going, among_insert, window_ships, window_checks}
 use Rattle.laws_cases.proofs.Moves.PoliciesStay.{same_policies}
 use Rattle.laws_cases.proofs.Steps.LegsThere.{leg_there}
@@ -85,7 +85,7 @@ module _ (w : Up) (k : ℕ) (x : Running) (s : SoundUp w) (r : IsRunning w k x) 
   moves q h = each_set (FitsIn w) w.relations k q s.legs_fit h
 
   goes_on : (u : Transfer) → FitsIn w (with_transfer x.relation u) u → LegsFit (with_relation w k (with_transfer x.relation u))
-  goes_on u h = moves (with_transfer x.relation u) (only w (with_transfer x.relation u) u refl h)
+  goes_on u h = moves (with_transfer x.relation u) (one_of (FitsIn w) (with_transfer x.relation u) u refl h)
 
   stops : (reason : Reason) → LegsFit (with_relation w k (with_transfer x.relation (interrupted reason x.transfer)))
   stops reason = goes_on (interrupted reason x.transfer) (fits_rested x (running_in w (with_transfer x.relation (interrupted reason x.transfer)) (interrupted reason x.transfer))
@@ -97,7 +97,7 @@ module _ (w : Up) (k : ℕ) (x : Running) (s : SoundUp w) (r : IsRunning w k x) 
   settles : (i : Ident) (later : List Ident) → x.transfer.legs ≡ i ∷ later → LegsFit (with_relation w k (settled_relation x i later))
   settles i [] l = moves (settled_relation x i []) (none_of (FitsIn w) (settled_relation x i []) refl)
   settles i (j ∷ is) l = let u : Transfer = record x.transfer { legs = j ∷ is; checkpoint = 0; landed = [] } in
-      moves (settled_relation x i (j ∷ is)) (only w (settled_relation x i (j ∷ is)) u refl (fits_unbegun (running_in w (settled_relation x i (j ∷ is)) u) refl refl (λ m p.
+      moves (settled_relation x i (j ∷ is)) (one_of (FitsIn w) (settled_relation x i (j ∷ is)) u refl (fits_unbegun (running_in w (settled_relation x i (j ∷ is)) u) refl refl (λ m p.
       later_fit ((s.legs_fit x.relation x.transfer (here w k x s r) r.transfer).mirror m (inl p)))))
     where
       in_legs : (n : Ident) → Among (j ∷ is) n → Among x.transfer.legs n
@@ -257,7 +257,7 @@ module _ (w : Up) (k : ℕ) (x : Running) (s : SoundUp w) (r : IsRunning w k x) 
       LegsFit (with_relation (with_destination w x (without (goes w x) x.destination)) k (with_transfer x.relation (record x.transfer { pruned = true })))
   prunes leg a u free other arr n = each_set (FitsIn (with_destination w x (without (goes w x) x.destination))) w.relations k (with_transfer x.relation (record x.transfer { pruned = true }))
       (at_destination (without (goes w x) x.destination) arr n (fits_unbegun (record x { destination = without (goes w x) x.destination }) start nothing_landed (λ _ p. absurd (true≢false (sym p ∙ not-true _ tests.0.1)))))
-      (only (with_destination w x (without (goes w x) x.destination)) (with_transfer x.relation (record x.transfer { pruned = true })) (record x.transfer { pruned = true }) refl
+      (one_of (FitsIn (with_destination w x (without (goes w x) x.destination))) (with_transfer x.relation (record x.transfer { pruned = true })) (record x.transfer { pruned = true }) refl
       (fits_unbegun (running_in (with_destination w x (without (goes w x) x.destination)) (with_transfer x.relation (record x.transfer { pruned = true })) (record x.transfer { pruned = true })) start nothing_landed
       (λ _ _. again (subst FitsSource (sym (own_running (without (goes w x) x.destination))) (pruned_fit leg a tests.0.0 free other)))))
     where

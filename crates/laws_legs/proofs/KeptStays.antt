@@ -19,16 +19,16 @@ use Rattle.sm_model.specs.Due.{StepKind, IsEffect, IsStep, by_transfer, by_tidy,
 use Rattle.sm_model.specs.LegsKept.{LegsKept}
 use Rattle.sm_model.specs.Sound.{SoundUp}
 use Rattle.laws_transfer.proofs.Lists.{from_map}
+use Rattle.laws_transfer.proofs.Kept.{filter_thins}
 use Rattle.laws_cases.proofs.Answers.Walk.{going}
 use Rattle.laws_cases.proofs.Needed.Needs.{mapped_at}
-use Rattle.laws_cases.proofs.Lists.Thinned.{filter_thins}
-use Rattle.laws_cases.proofs.Steps.Parties.{relation_stands}
+use Rattle.laws_cases.proofs.Steps.Parties.{relation_stands, at_x}
 use Rattle.laws_cases.proofs.Steps.DueCases.{IsDue, due_revert, due_finish, due_settle, due_prepare, due_prune, due_publish, due_checkpoint, due_ship, kind_is_due}
 use Rattle.laws_cases.proofs.Moves.Moves.{Turn, Start, Halve, IsMove, quiesces, resumes, ends, ends_settled, halts, halts_settled, starts, resyncs, deletes, releases, aside, relates, turns, begins, halves}
 use Rattle.laws_cases.proofs.Moves.OfMoves.{aside_relations, deed_moves}
-use Rattle.laws_cases.proofs.Lists.MoveFrames.{OfOne, each_set, each_push, each_halved, none_of}
+use Rattle.laws_cases.proofs.Lists.MoveFrames.{OfOne, each_set, each_push, each_halved, none_of, one_of}
 use Rattle.laws_copies.proofs.Arriving as arriving
-use Rattle.laws_copies.proofs.Arriving.{Arrives, fewer_at, at_x}
+use Rattle.laws_copies.proofs.Arriving.{Arrives, fewer_at}
 use Rattle.laws_legs.proofs.KeptParts.{VaultKeeps, kept_aside, kept_on, kept_new, kept_list}
 use Rattle.laws_cases.proofs.Moves.PoliciesStay.{same_policies, aside_policies}
 use Rattle.sm_defs.specs.Progress.{settled}
@@ -36,24 +36,20 @@ use Rattle.sm_defs.specs.Operations as operations
 
 -- ---- events
 
--- the one transfer that a relationship has
-only : (w : Up) (q : Relationship) (u : Transfer) → q.transfer ≡ Some u → VaultKeeps w q u → OfOne (VaultKeeps w) q
-only w q u e h t f = subst (VaultKeeps w q) (same_Some u t (sym e ∙ f)) h
-
 in_legs : (t : Transfer) (i : Ident) (later : List Ident) → t.legs ≡ i ∷ later → (j : Ident) → Among later j → Among t.legs j
 in_legs t i later l j m = subst (λ is. Among is j) (sym l) (inr m)
 
 of_turn : (w : Up) (r q : Relationship) → SoundUp w → Among w.relations r → Turn w r q → OfOne (VaultKeeps w) q
 of_turn w r q s m (quiesces flag) = λ t e. kept_on w r _ t t refl refl refl (λ i n. n) (s.legs_kept r t m e)
-of_turn w r q s m (resumes t e dp) = only w _ _ refl (kept_on w r _ t _ refl refl refl (λ i n. n) (s.legs_kept r t m e))
+of_turn w r q s m (resumes t e dp) = one_of (VaultKeeps w) _ _ refl (kept_on w r _ t _ refl refl refl (λ i n. n) (s.legs_kept r t m e))
 of_turn w r q s m (ends t e n) = none_of (VaultKeeps w) (without_transfer r) refl
 of_turn w r q s m (ends_settled t i later e l h) = none_of (VaultKeeps w) (without_transfer (settled r t i later)) refl
-of_turn w r q s m (halts t i later e l h) = only w _ _ refl (kept_on w r _ t _ refl refl refl (λ j n. n) (s.legs_kept r t m e))
-of_turn w r q s m (halts_settled t i later e l n h) = only w _ _ refl (kept_on w r _ t _ refl refl refl (in_legs t i later l) (s.legs_kept r t m e))
+of_turn w r q s m (halts t i later e l h) = one_of (VaultKeeps w) _ _ refl (kept_on w r _ t _ refl refl refl (λ j n. n) (s.legs_kept r t m e))
+of_turn w r q s m (halts_settled t i later e l n h) = one_of (VaultKeeps w) _ _ refl (kept_on w r _ t _ refl refl refl (in_legs t i later l) (s.legs_kept r t m e))
 
 of_start : (w : Up) (r q : Relationship) → SoundUp w → Among w.relations r → Start w r q → OfOne (VaultKeeps w) q
-of_start w r q s m (starts kind k none dp first some) = only w _ _ refl (kept_new w r _ kind r.base (volume_at w r.destination).snapshots s m refl refl)
-of_start w r q s m (resyncs c e rw_there same) = only w _ _ refl (kept_new w r _ _ (Some c.ident) _ s m refl refl)
+of_start w r q s m (starts kind k none dp first some) = one_of (VaultKeeps w) _ _ refl (kept_new w r _ kind r.base (volume_at w r.destination).snapshots s m refl refl)
+of_start w r q s m (resyncs c e rw_there same) = one_of (VaultKeeps w) _ _ refl (kept_new w r _ _ (Some c.ident) _ s m refl refl)
 
 of_halve : (w : Up) (r q : Relationship) → Halve w r q → OfOne (VaultKeeps w) q
 of_halve w r q (deletes h none) = none_of (VaultKeeps w) (without_destination r) none

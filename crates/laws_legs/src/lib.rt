@@ -7,27 +7,28 @@
 ghost use Rattle.laws_legs.specs.Fitting.{AnswersKeepFit, DeedsKeepFit, RestartsKeepFit};
 ghost use Rattle.laws_legs.specs.Keeping.{DeedsKeepLegs, RestartsKeepLegs};
 
-/// After each answer of a sound world what was shipped of a transfer's legs fits.
+/// After each answer of a sound world what was shipped of a transfer's first leg fits at its
+/// destination.
 pub fn answers_keep_fit()
     ensures { AnswersKeepFit }
 {}
 
-/// After each deed too.
+/// After each deed of a sound world what was shipped of a transfer's first leg fits at its destination.
 pub fn deeds_keep_fit()
     ensures { DeedsKeepFit }
 {}
 
-/// So it does after a restart of a sound world.
+/// After a restart of a sound world what was shipped of a transfer's first leg fits at its destination.
 pub fn restarts_keep_fit()
     ensures { RestartsKeepFit }
 {}
 
-/// After each deed that begins in a sound world each vault's transfer makes no leg, and its legs have rules.
+/// After each deed of a sound world each vault's transfer makes no leg, and its legs have rules.
 pub fn deeds_keep_legs()
     ensures { DeedsKeepLegs }
 {}
 
-/// So it is after a restart of a sound world.
+/// After a restart of a sound world each vault's transfer makes no leg, and its legs have rules.
 pub fn restarts_keep_legs()
     ensures { RestartsKeepLegs }
 {}

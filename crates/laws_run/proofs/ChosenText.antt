@@ -14,10 +14,10 @@ use Rattle.sm_model.specs.Steps.{Effect}
 use Rattle.sm_model.specs.Due.{IsIdle}
 use Rattle.sm_model.specs.Choice.{chosen}
 use Rattle.sm_model.specs.LegalRun.{IsChosen, IsQuiet, IsRestart, Fits, done, quiet, failed, down_still, restart_up, restart_before, restart_after, restart_failed_up, restart_failed, Run}
-use Rattle.laws_idle.proofs.Choosing.{chosen_is_due}
 use Rattle.laws_contents.proofs.Contents.{each_left}
 use Rattle.laws_run.specs.Early.{IsDecided, IsFaultless, AllFaultless, AllChosen}
 use Rattle.laws_run.proofs.Determined.{Follows, follows, text_after, world_after, sides_after, same_head, same_tail, prints_line}
+use Rattle.laws_idle.proofs.Idling.{none_chosen}
 
 -- ---- a worker's entry
 
@@ -36,10 +36,6 @@ record Acts (w : Up) (a : ℕ) (shown : Bool) (reply : Reply) (new : World) : Ty
 chose : (w : Up) (a : ℕ) (shown : Bool) (e : Effect) → chosen w a ≡ Some e → Acts w a shown e.reply (up e.world)
 unfolding choice_text choice_next
 chose w a shown e c = record { prints = ap (choice_text shown) (sym c); leads = ap (choice_next w) (sym c) }
-
-none_chosen : (w : Up) (a : ℕ) → IsIdle w → (o : Option Effect) → chosen w a ≡ o → o ≡ None
-none_chosen w a h None e = refl
-none_chosen w a h (Some effect) e = absurd (h effect (chosen_is_due w a effect e))
 
 idles : (w : Up) (a : ℕ) (shown : Bool) → IsIdle w → Acts w a shown replies.Idle (up w)
 unfolding choice_text choice_next

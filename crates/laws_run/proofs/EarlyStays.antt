@@ -13,8 +13,8 @@ use Rattle.laws_cases.proofs.Answers.Deeds.{done_gives}
 use Rattle.laws_copies.proofs.TagsStay as tags
 use Rattle.laws_copies.proofs.CopiesStay.{deeds_keep_copies}
 use Rattle.laws_copies.proofs.NumbersStay.{deeds_keep_numbers}
-use Rattle.laws_families.proofs.FamiliesStay.{deeds_keep_given}
-use Rattle.laws_families.proofs.FamiliesSteps.{deeds_keep_families}
+use Rattle.laws_families.proofs.BlocksStay.{deeds_keep_given}
+use Rattle.laws_families.proofs.BlocksSteps.{deeds_keep_family_blocks}
 use Rattle.laws_destinations.proofs.DestinationsStay.{deeds_keep_destinations}
 use Rattle.laws_form.proofs.FormedSteps.{deeds_keep_form}
 use Rattle.laws_run.specs.Early.{IsEarly, creates, writes, snaps, reads, heads, lists, digests, IsBare}
@@ -43,7 +43,7 @@ early_keeps e d y g i s b =
         formed = deeds_keep_form e d s g i;
         tags_fit = tags.of_deed e d s i;
         copies_agree = deeds_keep_copies e d s i;
-        families_agree = deeds_keep_families e d s i;
+        families_agree = deeds_keep_family_blocks e d s i;
         destinations_stand = deeds_keep_destinations e d s i;
         numbers_stand = deeds_keep_numbers e d s g i;
         families = deeds_keep_given e d s i;

@@ -19,6 +19,7 @@ use Rattle.laws_run.specs.Listed.{IsListed, IsTooSmall, LacksName}
 use Rattle.laws_transfer.proofs.Asc.{among_each}
 use Rattle.laws_cases.proofs.Answers.Deeds.{ok_is_no_refusal}
 use Rattle.laws_run.proofs.Listing.{refusal_listed}
+use Rattle.laws_cases.proofs.Answers.Refused.{same_refusal}
 
 -- ---- answers
 
@@ -62,9 +63,6 @@ no_fault_listed disk count y h = true≢false (listed_tells_none (refusals.DiskF
 no_down_listed : {e : Event} (disk : DiskNo) → IsEarly e → ¬ IsListed e (refusals.Down disk)
 unfolding tells_disk
 no_down_listed disk y h = true≢false (listed_tells_none (refusals.Down disk) y h)
-
-same_refusal : (r s : Refusal) → replies.Refused r ≡ replies.Refused s → r ≡ s
-same_refusal r s e = cc
 
 pub refused_faultless : (w : Up) (e : Event) (reply : Reply) (r : Refusal) → IsEarly e → answer w e ≡ Some (Err r) → reply ≡ replies.Refused r → IsFaultless reply
 refused_faultless w e reply r y i k =

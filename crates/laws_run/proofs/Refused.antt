@@ -16,9 +16,7 @@ use Rattle.laws_run.specs.Early.{IsFaultless}
 use Rattle.laws_run.specs.Listed.{IsListed}
 use Rattle.laws_cases.proofs.Answers.Deeds.{deeds_are_no_refusals}
 use Rattle.laws_run.proofs.Listing.{refusal_listed}
-
-same_refusal : (r s : Refusal) → replies.Refused r ≡ replies.Refused s → r ≡ s
-same_refusal r s e = cc
+use Rattle.laws_cases.proofs.Answers.Refused.{same_refusal}
 
 refused_listed : (w : Up) (e : Event) (a : Option Answer) (reply : Reply) (r : Refusal) → answer w e ≡ a → IsRefused a reply → reply ≡ replies.Refused r → IsListed e r
 refused_listed w e (Some (Ok x)) reply r i h f = absurd h

@@ -24,7 +24,7 @@ pub fn each_world_is_sound()
     ensures { EachWorldIsSound }
 {}
 
-/// Each deed of such a run begins in a sound world.
+/// Each deed of a legal run from a sound world begins in a sound world.
 pub fn deeds_begin_sound()
     ensures { DeedsBeginSound }
 {}
@@ -40,7 +40,8 @@ pub fn refusals_are_listed()
     ensures { RefusalsAreListed }
 {}
 
-/// So is each entry that answers a refusal, but of a disk that failed or a node that is down.
+/// Each entry that answers a refusal answers one that is listed for its event, but of a disk that
+/// failed or a node that is down.
 pub fn entries_are_refused_as_listed()
     ensures { EntriesAreRefusedAsListed }
 {}
@@ -55,39 +56,43 @@ pub fn worlds_are_sound()
     ensures { WorldsAreSound }
 {}
 
-/// In each of them each copy of an identity has what its origin held.
+/// In each world of a run from a sound world that is up each copy of an identity has what its origin
+/// held.
 pub fn worlds_have_origins()
     ensures { WorldsHaveOrigins }
 {}
 
-/// So it is in the last world, with all deeds of the run.
+/// In the last world of a run from a sound world that is up each copy of an identity has what its
+/// origin held.
 pub fn runs_end_with_origins()
     ensures { RunsEndWithOrigins }
 {}
 
-/// No deed of such a run makes an identity that stood at the start or was made before.
+/// No deed of a run from a sound world that is up makes an identity that stood at the start or was made
+/// before.
 pub fn runs_make_once()
     ensures { RunsMakeOnce }
 {}
 
-/// Each deed of such a run drops exactly the snapshots that the rules name for it.
+/// Each deed of a run from a sound world that is up drops exactly the snapshots that the rules name for
+/// it.
 pub fn runs_drop_by_rule()
     ensures { RunsDropByRule }
 {}
 
-/// In each world of such a run a base is on each side that has its half, and a remaining leg on its
-/// source but for a reserved one that was not made.
+/// In each world of a run from a sound world a base is on each side that has its half, and a remaining
+/// leg on its source but for a reserved one that was not made.
 pub fn worlds_have_bases()
     ensures { WorldsHaveBases }
 {}
 
-/// Each entry of such a run drops exactly what the rules name for its deed: a restart that finds a deed done
-/// too, and an entry without a deed nothing.
+/// Each entry of a run from a sound world that is up drops exactly what the rules name for its deed: a
+/// restart that finds a deed done too, and an entry without a deed nothing.
 pub fn entries_drop_by_rule()
     ensures { EntriesDropByRule }
 {}
 
-/// No entry of a run drops a snapshot that some relationship needs.
+/// No entry of a run from a world that is up drops a snapshot that some relationship needs.
 pub fn none_needed_goes()
     ensures { NoneNeededGoes }
 {}

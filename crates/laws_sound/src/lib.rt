@@ -5,12 +5,13 @@
 
 ghost use Rattle.laws_sound.specs.Soundness.{DeedsKeepSound, RestartsKeepSound, EntriesKeepSound};
 
-/// Each deed of a sound world, of an event that a script or a report can give, leaves a sound world.
+/// Each deed of a sound world, of an event that a script, a worker or the report can ask for, leaves a
+/// sound world.
 pub fn deeds_keep_sound()
     ensures { DeedsKeepSound }
 {}
 
-/// So does each restart.
+/// Each restart of a sound world leaves a sound one.
 pub fn restarts_keep_sound()
     ensures { RestartsKeepSound }
 {}

@@ -110,14 +110,14 @@ numbers_from zero t k m = absurd m
 numbers_from (suc n) t k (inl e) = (omega arith, omega arith)
 numbers_from (suc n) t k (inr m) = let h = numbers_from n (suc t) k m in (omega arith, omega arith)
 
-order : (t k : ℕ) → t ≤ k → (k ≡ t) ⊎ (suc t ≤ k)
+pub order : (t k : ℕ) → t ≤ k → (k ≡ t) ⊎ (suc t ≤ k)
 order t k h = go (cases_eq k t)
   where
     go : (k ≡ t) ⊎ (k ≡ t → ⊥) → (k ≡ t) ⊎ (suc t ≤ k)
     go (inl e) = inl e
     go (inr n) = inr (omega arith)
 
-to_numbers : (n t k : ℕ) → t ≤ k → k < t + n → Among (numbers t n) k
+pub to_numbers : (n t k : ℕ) → t ≤ k → k < t + n → Among (numbers t n) k
 to_numbers zero t k h l = absurd (omega arith)
 to_numbers (suc n) t k h l = go (order t k h) (to_numbers n (suc t) k)
   where
@@ -251,3 +251,8 @@ pub maps_alone : (leg : Image) (bases : Bases) (free : List ℕ) →
     (missing_places leg bases ≡ missing_numbers_from 0 (tags leg) (tags bases.at_source)) ×
     (tags (vault_landing leg bases free) ≡ landed_numbers (tags leg) (tags bases.at_source) (tags bases.at_destination) free)
 maps_alone leg bases free = (missing_map 0 leg bases.at_source, landed_map leg bases.at_source bases.at_destination free)
+
+pub below_numbers : (n t k : ℕ) → Among (numbers t n) k → k < t + n
+below_numbers zero t k m = absurd m
+below_numbers (suc n) t k (inl e) = omega arith
+below_numbers (suc n) t k (inr m) = let h = below_numbers n (suc t) k m in omega arith

@@ -1,8 +1,10 @@
 -- Opening again changes nothing.
-use Rattle.std.proofs.Common.{◌≡◌, List, [], ◌∷◌, map, Option, Some, None, refl, ap, ap₂}
+use Rattle.std.proofs.Common.{◌≡◌, List, [], ◌∷◌, map, Option, Some, None, refl, ap, ap₂, ◌<◌, ℕ, length}
 use Rattle.sm_defs.specs.Relationship.{Relationship, Transfer}
-use Rattle.sm_defs.specs.World.{Up}
+use Rattle.sm_defs.specs.World.{Up, volume_at}
+use Rattle.sm_defs.specs.Volume.{no_volume}
 use Rattle.sm_model.specs.Opened.{opened, rejoined, restarted}
+use Rattle.laws_cases.proofs.Needed.Needs.{mapped_at}
 use Rattle.sm_defs.specs.Operations as operations
 
 mapped_twice : {X : Type 0} (f : X → X) (xs : List X) → ((x : X) → f (f x) ≡ f x) → map f (map f xs) ≡ map f xs
@@ -18,3 +20,10 @@ rejoined_twice r = ap (λ t. record r { transfer = t }) (restarted_twice r.trans
 
 pub opened_twice : (w : Up) → opened (opened w) ≡ opened w
 opened_twice w = ap₂ (λ vs rs. record w { volumes = vs; relations = rs }) (mapped_twice operations.opened w.volumes (λ v. refl)) (mapped_twice rejoined w.relations rejoined_twice)
+
+-- what a restart makes of the volumes
+abbrev pub Reopened : Up → Up
+Reopened w = record w { volumes = map operations.opened w.volumes }
+
+pub reopened_at : (w : Up) (i : ℕ) → i < length w.volumes → volume_at (Reopened w) i ≡ operations.opened (volume_at w i)
+reopened_at w i l = mapped_at operations.opened w.volumes no_volume i l

@@ -13,7 +13,7 @@ use Rattle.sm_model.specs.LegalRun.{Fits}
 use Rattle.laws_cases.specs.Answering.{IsFault}
 use Rattle.laws_cases.proofs.Answers.Deeds.{deeds_are_no_refusals}
 
-same_refusal : (r s : Refusal) → replies.Refused r ≡ replies.Refused s → r ≡ s
+pub same_refusal : (r s : Refusal) → replies.Refused r ≡ replies.Refused s → r ≡ s
 same_refusal r s e = cc
 
 no_fault : (reply : Reply) (r : Refusal) (disk : DiskNo) (count : ℕ) → reply ≡ runs.fault disk count → reply ≡ replies.Refused r → ¬ (IsFault r) → ⊥

@@ -1,7 +1,7 @@
 -- A list with some members left out.
 use Rattle.std.proofs.Common.{◌≡◌, Bool, true, false, cond, List, [], ◌∷◌, map, inl, inr, length, ◌≤◌, arith}
-use Rattle.std.specs.List.{filter, AllByRecursion}
-use Rattle.sm_defs.specs.Words.{Among, KeysDiffer, up_to}
+use Rattle.std.specs.List.{AllByRecursion}
+use Rattle.sm_defs.specs.Words.{Among, KeysDiffer, up_to, after}
 use Rattle.sm_defs.specs.Thinned.{Thinned, end, kept, left_out}
 
 pub all_kept : {X : Type 0} (xs : List X) → Thinned xs xs
@@ -11,14 +11,6 @@ all_kept (x ∷ xs) = kept (all_kept xs)
 none_kept : {X : Type 0} (xs : List X) → Thinned [] xs
 none_kept [] = end
 none_kept (x ∷ xs) = left_out (none_kept xs)
-
-cond_thins : {X : Type 0} (b : Bool) (x : X) (xs ys : List X) → Thinned xs ys → Thinned (cond b (x ∷ xs) xs) (x ∷ ys)
-cond_thins true x xs ys t = kept t
-cond_thins false x xs ys t = left_out t
-
-pub filter_thins : {X : Type 0} (p : X → Bool) (xs : List X) → Thinned (filter p xs) xs
-filter_thins p [] = end
-filter_thins p (x ∷ xs) = cond_thins (p x) x (filter p xs) xs (filter_thins p xs)
 
 up_to_cases : {X : Type 0} (b : Bool) (x : X) (xs ys : List X) → Thinned xs ys → Thinned (cond b (x ∷ []) (x ∷ xs)) (x ∷ ys)
 up_to_cases true x xs ys t = kept (none_kept ys)
@@ -53,3 +45,11 @@ pub thinned_map : {X Y : Type 0} (f : X → Y) {xs ys : List X} → Thinned xs y
 thinned_map f end = end
 thinned_map f (kept t) = kept (thinned_map f t)
 thinned_map f (left_out t) = left_out (thinned_map f t)
+
+pub after_thins : {X : Type 0} (p : X → Bool) (xs : List X) → Thinned (after p xs) xs
+after_thins p [] = end
+after_thins p (x ∷ xs) = go (p x) (after_thins p xs)
+  where
+    go : (b : Bool) → Thinned (after p xs) xs → Thinned (cond b xs (after p xs)) (x ∷ xs)
+    go true t = left_out (all_kept xs)
+    go false t = left_out t

@@ -9,7 +9,7 @@ use Rattle.sm_defs.specs.Retention.{retained, keeps}
 use Rattle.sm_defs.specs.World.{Up, volume_at, with_volume}
 use Rattle.sm_defs.specs.Legs.{after_base}
 use Rattle.sm_model.specs.Steps.{snapshot_of}
-use Rattle.laws_transfer.proofs.Lists.{among_filter, filter_among, copy_from_has, has_from_copy, among_right}
+use Rattle.laws_transfer.proofs.Lists.{among_filter, filter_among, copy_from_has, has_from_copy, among_right, among_append}
 use Rattle.laws_transfer.proofs.Asc.{among_each}
 use Rattle.laws_transfer.proofs.Kept.{begins}
 use Rattle.laws_cases.proofs.Lists.Members.{set_at}
@@ -117,3 +117,14 @@ last_kept rules class needs older s k =
 pub from_base : (base : Option Ident) (ss : List Snapshot) (s : Snapshot) → Among (after_base base ss) s → Among ss s
 from_base None ss s m = m
 from_base (Some i) ss s m = after_among _ ss s m
+
+pub lacks_fewer : (ss ts : List Snapshot) (i : Ident) → ((s : Snapshot) → Among ts s → Among ss s) → has ss i ≡ false → has ts i ≡ false
+lacks_fewer ss ts i h e = false_from_ne_true (has ts i) (λ k. let (t, m, q) = copy_from_has ts i k in true≢false (sym (has_from_copy ss i (t, h t m, q)) ∙ e))
+
+pub lacks_more : (ss : List Snapshot) (f : Snapshot) (i : Ident) → ¬ (i ≡ f.ident) → has ss i ≡ false → has (ss ++ f ∷ []) i ≡ false
+lacks_more ss f i n e = false_from_ne_true _ (λ k. let (t, m, q) = copy_from_has (ss ++ f ∷ []) i k in go t q (among_append ss (f ∷ []) t m))
+  where
+    go : (t : Snapshot) → t.ident ≡ i → Among ss t ⊎ Among (f ∷ []) t → ⊥
+    go t q (inl m) = true≢false (sym (has_from_copy ss i (t, m, q)) ∙ e)
+    go t q (inr (inl g)) = n (sym q ∙ ap (λ y. y.ident) g)
+    go t q (inr (inr m)) = m

@@ -9,7 +9,8 @@ use Rattle.sm_defs.specs.Volume.{Snapshot}
 use Rattle.sm_defs.specs.Relationship.{is_mirror}
 use Rattle.sm_model.specs.Running.{Running}
 use Rattle.sm_model.specs.Steps.{bases, cost}
-use Rattle.laws_cases.proofs.Lists.Thinned.{filter_thins, thinned_shorter}
+use Rattle.laws_transfer.proofs.Kept.{filter_thins}
+use Rattle.laws_cases.proofs.Lists.Thinned.{thinned_shorter}
 use Rattle.laws_cases.proofs.Steps.Shipping.{prefix_is, prefix_near}
 use Rattle.sm_defs.specs.Progress.{landed_prefix}
 

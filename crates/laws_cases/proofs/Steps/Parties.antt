@@ -3,7 +3,7 @@ use Rattle.std.proofs.Common.{◌≡◌, ℕ, Bool, true, false, cond, ◌||◌,
 use Rattle.sm_base.specs.declared.numbers.Ident.{Ident}
 use Rattle.sm_defs.specs.Words.{Among, same_ident}
 use Rattle.sm_defs.specs.Volume.{Snapshot, no_volume, has}
-use Rattle.sm_defs.specs.World.{Up, no_relation}
+use Rattle.sm_defs.specs.World.{Up, no_relation, volume_at}
 use Rattle.sm_model.specs.Crossed.{Crossed}
 use Rattle.sm_model.specs.Running.{Running, IsRunning}
 use Rattle.sm_model.specs.Steps.{snapshot_of}
@@ -36,3 +36,6 @@ lacked ss i s h m e = true≢false (sym (has_from_copy ss i (s, m, e)) ∙ h)
 pub base_is : (o : Option Ident) (ss : List Snapshot) (base : Snapshot) → snapshot_of ss o ≡ Some base → o ≡ Some base.ident
 base_is None ss base e = absurd (cc)
 base_is (Some i) ss base e = ap Some (sym (snapshot_is ss i base e).1)
+
+pub at_x : (w : Up) (k : ℕ) (x : Running) → IsRunning w k x → volume_at w x.relation.destination ≡ x.destination
+at_x w k x r = sym (ap (λ y. y.destination) r.is)

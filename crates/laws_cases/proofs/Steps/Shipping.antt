@@ -1,7 +1,7 @@
 -- Where Ship is due some index may be shipped.
 use Rattle.std.proofs.Common.{◌≡◌, ◌≢◌, ◌⊎◌, ◌<◌, ◌≤◌, ◌+◌, ℕ, zero, suc, ◌==◌, ◌&&◌, nat_lt, not, Bool, true, false, cond, List, [], ◌∷◌, length, refl, sym, subst, inl, inr, arith}
 use Rattle.std.specs.List.{list_all}
-use Rattle.std.proofs.lemmas.Bool.{and_from, and_cases, not_from_false, eqb-false, lt-ltb, both_ways, cases_eq, false_from_ne_true}
+use Rattle.std.proofs.lemmas.Bool.{and_from, and_cases, not_from_false, eqb-false, lt-ltb, both_ways, false_from_ne_true}
 use Rattle.sm_base.specs.declared.limits.TheConstants.{WINDOW}
 use Rattle.sm_defs.specs.Words.{Among, Ascends}
 use Rattle.sm_defs.specs.Image.{stands}
@@ -12,30 +12,11 @@ use Rattle.sm_model.specs.Steps.{may_ship, all_landed, at_checkpoint}
 use Rattle.sm_model.specs.Choice.{shippable}
 use Rattle.laws_transfer.proofs.Lists.{stands_among, filter_among}
 use Rattle.laws_transfer.proofs.Asc.{among_each}
+use Rattle.laws_transfer.proofs.Landed.{order, to_numbers, below_numbers}
 use Rattle.laws_cases.proofs.Needed.Needs.{within_or_beyond}
 use Rattle.sm_defs.specs.Progress.{prefix_from, landed_prefix}
 
 -- ---- numbers
-
-order : (t k : ℕ) → t ≤ k → (k ≡ t) ⊎ (suc t ≤ k)
-order t k h = go (cases_eq k t)
-  where
-    go : (k ≡ t) ⊎ (k ≡ t → ⊥) → (k ≡ t) ⊎ (suc t ≤ k)
-    go (inl e) = inl e
-    go (inr n) = inr (omega arith)
-
-pub to_numbers : (n t k : ℕ) → t ≤ k → k < t + n → Among (numbers t n) k
-to_numbers zero t k h l = absurd (omega arith)
-to_numbers (suc n) t k h l = go (order t k h) (to_numbers n (suc t) k)
-  where
-    go : (k ≡ t) ⊎ (suc t ≤ k) → (suc t ≤ k → k < suc t + n → Among (numbers (suc t) n) k) → Among (numbers t (suc n)) k
-    go (inl e) ih = inl e
-    go (inr g) ih = inr (ih g (omega arith))
-
-pub below_numbers : (n t k : ℕ) → Among (numbers t n) k → k < t + n
-below_numbers zero t k m = absurd m
-below_numbers (suc n) t k (inl e) = omega arith
-below_numbers (suc n) t k (inr m) = let h = below_numbers n (suc t) k m in omega arith
 
 -- ---- the first number that has not landed
 

@@ -1,4 +1,4 @@
-use Rattle.laws_families.proofs.FamiliesStay.{deeds_keep_given}
+use Rattle.laws_families.proofs.BlocksStay.{deeds_keep_given}
 use Rattle.laws_families.proofs.deeds_keep_family_numbers.Goals as goal
 
 pub returns : goal.returns

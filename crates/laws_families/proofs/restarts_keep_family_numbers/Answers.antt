@@ -1,4 +1,4 @@
-use Rattle.laws_families.proofs.FamiliesStay.{restarts_keep_given}
+use Rattle.laws_families.proofs.BlocksStay.{restarts_keep_given}
 use Rattle.laws_families.proofs.restarts_keep_family_numbers.Goals as goal
 
 pub returns : goal.returns

@@ -22,13 +22,14 @@ use Rattle.sm_model.specs.FamiliesAgree.{FamiliesAgree}
 use Rattle.sm_model.specs.FamiliesStand.{IsFamily}
 use Rattle.sm_model.specs.Sound.{SoundUp}
 use Rattle.laws_transfer.proofs.Lists.{among_append, from_map}
+use Rattle.laws_transfer.proofs.Kept.{filter_thins}
 use Rattle.laws_cases.proofs.Answers.Walk.{going}
 use Rattle.laws_cases.proofs.Lists.Members.{among_get_or}
 use Rattle.laws_cases.proofs.Answers.Changes as answers
 use Rattle.laws_cases.proofs.Answers.Changes.{Is, IsChange, IsAnswer}
 use Rattle.laws_cases.proofs.Answers.OfAnswer.{of_answer}
 use Rattle.laws_cases.proofs.Answers.Deeds.{IsAnswered, deed_cases, from_answer}
-use Rattle.laws_cases.proofs.Lists.Thinned.{all_kept, filter_thins, thinned_among}
+use Rattle.laws_cases.proofs.Lists.Thinned.{all_kept, thinned_among}
 use Rattle.laws_cases.proofs.Lists.Frames.{each_set, each_push, each_mapped, stands_set, stands_push}
 use Rattle.laws_copies.proofs.Fresh.{client_fresh}
 use Rattle.laws_cases.proofs.Steps.Parties.{relation_stands, source_stands, destination_stands}
@@ -106,14 +107,14 @@ answered_agree w u ev t s (answers.plain p c) = families_come w u (in_family w u
 answered_agree w u ev t s (answers.snaps v a p is path name label so) = families_fresh w u (client_snapshot v.at w.clock v.item name label)
     (one_in_family w v.at v.item _ _ a.among refl refl) (client_fresh w p v s.numbers_stand is) s.families_agree
 
-pub answers_keep_families : (w : Up) (e : Event) (reached : Reached) → SoundUp w → answer w e ≡ Some (Ok reached) → FamiliesAgree reached.world
-answers_keep_families w e reached s i = answered_agree w reached.world e reached.reply s (from_answer (Is w e) (answer w e) reached (of_answer w e) i)
+pub answers_keep_family_blocks : (w : Up) (e : Event) (reached : Reached) → SoundUp w → answer w e ≡ Some (Ok reached) → FamiliesAgree reached.world
+answers_keep_family_blocks w e reached s i = answered_agree w reached.world e reached.reply s (from_answer (Is w e) (answer w e) reached (of_answer w e) i)
 
 reopened_in_family : (w : Up) → AllInFamily w (opened w)
 reopened_in_family w v s (m, n) = let (u, k, e) = from_map operations.opened w.volumes v m in of_old w u v s k (subst (λ y. Among y.snapshots s) e n) (ap (λ y. y.family) e)
 
-pub restarts_keep_families : (w : Up) → FamiliesAgree w → FamiliesAgree (opened w)
-restarts_keep_families w k = families_come w (opened w) (reopened_in_family w) k
+pub restarts_keep_family_blocks : (w : Up) → FamiliesAgree w → FamiliesAgree (opened w)
+restarts_keep_family_blocks w k = families_come w (opened w) (reopened_in_family w) k
 
 -- ---- families are of numbers that were given
 

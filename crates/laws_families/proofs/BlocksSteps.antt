@@ -23,9 +23,10 @@ use Rattle.sm_model.specs.Due.{StepKind, IsEffect, IsStep, by_transfer, by_tidy,
 use Rattle.sm_model.specs.LegalRun.{IsDeed}
 use Rattle.sm_model.specs.FamiliesAgree.{FamiliesAgree}
 use Rattle.sm_model.specs.Sound.{SoundUp}
+use Rattle.laws_transfer.proofs.Kept.{filter_thins}
 use Rattle.laws_cases.proofs.Answers.Walk.{going}
 use Rattle.laws_cases.proofs.Lists.Members.{among_set, among_get_or}
-use Rattle.laws_cases.proofs.Lists.Thinned.{filter_thins, thinned_among}
+use Rattle.laws_cases.proofs.Lists.Thinned.{thinned_among}
 use Rattle.laws_cases.proofs.Answers.OfAnswer.{of_answer}
 use Rattle.laws_cases.proofs.Answers.Deeds.{of_done}
 use Rattle.laws_cases.proofs.Needed.Leaving.{same_member}
@@ -34,7 +35,7 @@ use Rattle.laws_cases.proofs.Steps.DueCases.{Ahead, IsDue, due_revert, due_finis
 use Rattle.laws_cases.proofs.Steps.Landing.{reverted_thins}
 use Rattle.laws_copies.proofs.Brings.{reserved_fresh}
 use Rattle.laws_copies.proofs.StepTags.{published_among}
-use Rattle.laws_families.proofs.FamiliesStay.{answered_agree, thinned_in_family, one_in_family, families_come, families_fresh}
+use Rattle.laws_families.proofs.BlocksStay.{answered_agree, thinned_in_family, one_in_family, families_come, families_fresh}
 use Rattle.sm_defs.specs.Made.{family_of_transfer}
 
 -- ---- a volume that was changed
@@ -223,7 +224,7 @@ of_step w e s (by_transfer k x kind r d i) = of_effect w k x kind e s r (kind_is
 of_step w e s (by_tidy n d i) = subst By (sym i) (families_come w (with_volume w n (without (is_tidied w n) (volume_at w n))) (thinned_in_family w n (volume_at w n) (without (is_tidied w n) (volume_at w n)) (among_get_or w.volumes n no_volume (tidy_within w n d)) refl
     (filter_thins (λ t. not (is_tidied w n t)) (volume_at w n).snapshots)) s.families_agree)
 
-pub deeds_keep_families : (e : Event) (d : Deed) → SoundUp d.old → IsDeed e d → FamiliesAgree d.new
+pub deeds_keep_family_blocks : (e : Event) (d : Deed) → SoundUp d.old → IsDeed e d → FamiliesAgree d.new
 unfolding IsDeed
-deeds_keep_families (events.Work shown) d s i = of_step d.old _ s i
-deeds_keep_families e d s i = let a = of_done e (answer d.old e) d (of_answer d.old e) i in answered_agree d.old d.new e a.tells s a.is
+deeds_keep_family_blocks (events.Work shown) d s i = of_step d.old _ s i
+deeds_keep_family_blocks e d s i = let a = of_done e (answer d.old e) d (of_answer d.old e) i in answered_agree d.old d.new e a.tells s a.is

@@ -7,7 +7,7 @@ use Rattle.std.proofs.lemmas.Option.{same_Some}
 use Rattle.sm_base.specs.declared.numbers.Ident.{Ident}
 use Rattle.sm_base.specs.declared.numbers.Kind.TheVariants.{Rw}
 use Rattle.sm_defs.specs.Words.{Among}
-use Rattle.sm_defs.specs.Volume.{Volume, has, no_volume, is_rw, without}
+use Rattle.sm_defs.specs.Volume.{Volume, has, is_rw, without}
 use Rattle.sm_defs.specs.Relationship.{Relationship, Transfer, is_mirror, is_resync}
 use Rattle.sm_defs.specs.World.{Up, volume_at, policy_at, with_volume, with_relation}
 use Rattle.sm_model.specs.declared.event.Event.{Event}
@@ -22,23 +22,25 @@ use Rattle.sm_model.specs.Crossed.{CrossedRelation}
 use Rattle.sm_model.specs.FamiliesStand.{IsBaseOrFirst, FamilyStands, FamiliesStand}
 use Rattle.sm_model.specs.Sound.{SoundUp}
 use Rattle.laws_transfer.proofs.Lists.{from_map, has_from_copy}
+use Rattle.laws_transfer.proofs.Kept.{filter_thins}
 use Rattle.laws_cases.specs.Needs.{KeepsNeeded}
 use Rattle.laws_cases.proofs.Answers.Walk.{going}
-use Rattle.laws_cases.proofs.Needed.Needs.{mapped_at, mapped_length}
+use Rattle.laws_cases.proofs.Needed.Needs.{mapped_length}
 use Rattle.laws_cases.proofs.Needed.NeedsStay.{deeds_keep}
-use Rattle.laws_cases.proofs.Lists.Thinned.{filter_thins, thinned_among}
+use Rattle.laws_cases.proofs.Lists.Thinned.{thinned_among}
 use Rattle.laws_cases.proofs.Answers.Plainly.{rw_from, not_both, rw_if}
 use Rattle.laws_cases.proofs.Steps.DueCases.{IsDue, due_revert, due_finish, due_settle, due_prepare, due_prune, due_publish, due_checkpoint, due_ship, kind_is_due, no_reason, tidy_within}
-use Rattle.laws_families.proofs.FamiliesStay.{deeds_keep_given, restarts_keep_given}
+use Rattle.laws_families.proofs.BlocksStay.{deeds_keep_given, restarts_keep_given}
 use Rattle.laws_cases.proofs.Moves.Moves.{IsMove}
 use Rattle.laws_cases.proofs.Moves.OfMoves.{deed_moves}
-use Rattle.laws_cases.proofs.Lists.MoveFrames.{OfEach, each_set, none_of}
+use Rattle.laws_cases.proofs.Lists.MoveFrames.{OfEach, each_set, none_of, one_of}
 use Rattle.laws_families.proofs.FamilyParts.{IsIdle}
 use Rattle.laws_families.proofs.FamilyMoves.{IdleStay, family_on}
-use Rattle.laws_families.proofs.FamilyAnswers.{AllStand, idle_set, idle_had, only, listed, settled_stands, same_stands, same_base_or_first, no_leg_there, family_same, of_move}
+use Rattle.laws_families.proofs.FamilyAnswers.{AllStand, idle_set, idle_had, listed, settled_stands, same_stands, same_base_or_first, no_leg_there, family_same, of_move}
 use Rattle.laws_families.proofs.FamilyTakes.{lacks_by, prepares, prunes, reverts_mirror}
 use Rattle.laws_families.proofs.FamilyPublish.{reverts_vault, publishes_vault, publishes_mirror}
 use Rattle.laws_cases.proofs.Steps.RunningTransfers.{here, at_x}
+use Rattle.laws_cases.proofs.Answers.Opening.{Reopened, reopened_at}
 use Rattle.sm_defs.specs.Operations as operations
 
 -- ---- the transfer of a running relationship
@@ -50,7 +52,7 @@ module _ (w : Up) (k : ℕ) (x : Running) (s : SoundUp w) (r : IsRunning w k x) 
   goes_on : (t : Transfer) → t.number ≡ x.transfer.number → t.legs ≡ x.transfer.legs → AllStand (with_relation w k (with_transfer x.relation t))
   goes_on t n l = listed w w.next_relation w.next_transfer _ (same_idle (with_transfer x.relation t) refl refl refl)
       (each_set (FamilyStands w) w.relations k (with_transfer x.relation t) s.families_stand.transfers
-      (only w (with_transfer x.relation t) t refl (same_stands w x.relation (with_transfer x.relation t) x.transfer t s (here w k x s r) r.transfer refl refl refl refl n l)))
+      (one_of (FamilyStands w) (with_transfer x.relation t) t refl (same_stands w x.relation (with_transfer x.relation t) x.transfer t s (here w k x s r) r.transfer refl refl refl refl n l)))
 
   finishes : AllStand (with_relation w k (without_transfer x.relation))
   finishes = listed w w.next_relation w.next_transfer _ (same_idle (without_transfer x.relation) refl refl refl)
@@ -62,7 +64,7 @@ module _ (w : Up) (k : ℕ) (x : Running) (s : SoundUp w) (r : IsRunning w k x) 
   settles i (j ∷ is) l h = let t : Transfer = record x.transfer { legs = j ∷ is; checkpoint = 0; landed = [] } in
       listed w w.next_relation w.next_transfer _ (same_idle (settled_relation x i (j ∷ is)) refl refl refl)
       (each_set (FamilyStands w) w.relations k (settled_relation x i (j ∷ is)) s.families_stand.transfers
-      (only w (settled_relation x i (j ∷ is)) t refl (settled_stands w x.relation (settled_relation x i (j ∷ is)) x.transfer t i (j ∷ is) s (here w k x s r) r.transfer l
+      (one_of (FamilyStands w) (settled_relation x i (j ∷ is)) t refl (settled_stands w x.relation (settled_relation x i (j ∷ is)) x.transfer t i (j ∷ is) s (here w k x s r) r.transfer l
       (subst (λ y. has y.snapshots i ≡ true) (sym (at_x w k x s r)) h) refl refl refl refl refl refl)))
 
   -- over a destination that was pruned
@@ -70,7 +72,7 @@ module _ (w : Up) (k : ℕ) (x : Running) (s : SoundUp w) (r : IsRunning w k x) 
   goes_on_over u t n l h = listed (with_destination w x u) w.next_relation w.next_transfer _
       (idle_set (with_destination w x u) k (with_transfer x.relation t) (idle_had (with_destination w x u) x.relation (with_transfer x.relation t) x.transfer (here w k x s r) r.transfer (λ z. z) refl refl))
       (each_set (FamilyStands (with_destination w x u)) w.relations k (with_transfer x.relation t) h
-      (only (with_destination w x u) (with_transfer x.relation t) t refl (family_on (with_destination w x u) x.relation (with_transfer x.relation t) x.transfer t refl refl refl n (λ j m. subst (λ ks. Among ks j) l m)
+      (one_of (FamilyStands (with_destination w x u)) (with_transfer x.relation t) t refl (family_on (with_destination w x u) x.relation (with_transfer x.relation t) x.transfer t refl refl refl n (λ j m. subst (λ ks. Among ks j) l m)
       (λ j b z. (j, subst (λ is. IsBaseOrFirst (with_transfer x.relation t) is j) (sym l) (same_base_or_first x.relation (with_transfer x.relation t) x.transfer.legs j refl b), z)) (h x.relation x.transfer (here w k x s r) r.transfer))))
 
 unpruned_mirror : (m p c : Bool) → (m && not p && c) ≡ true → m ≡ true
@@ -115,17 +117,14 @@ of_step : (w : Up) (e : Effect) → SoundUp w → IsStep w e → By w e
 of_step w e s (by_transfer k x kind r d i) = of_effect w k x kind e s r (kind_is_due x kind d) i
 of_step w e s (by_tidy n d i) = subst (By w) (sym i) (tidies w n s d)
 
-pub deeds_keep_all_families : (e : Event) (d : Deed) → SoundUp d.old → IsDeed e d → FamiliesStand d.new
-deeds_keep_all_families e d s i = record { given = deeds_keep_given e d s i; transfers = go (deed_moves e d i) }
+pub deeds_keep_own_families : (e : Event) (d : Deed) → SoundUp d.old → IsDeed e d → FamiliesStand d.new
+deeds_keep_own_families e d s i = record { given = deeds_keep_given e d s i; transfers = go (deed_moves e d i) }
   where
     go : IsStepDeed d ⊎ IsMove d.old d.new → AllStand d.new
     go (inl t) = of_step d.old _ s t (deeds_keep e d i)
     go (inr m) = of_move d.old d.new s m (deeds_keep e d i)
 
 -- ---- restarts
-
-abbrev Reopened : Up → Up
-Reopened w = record w { volumes = map operations.opened w.volumes }
 
 reopened_stands : (w : Up) → SoundUp w → (r : Relationship) (t : Transfer) → Among w.relations r → r.transfer ≡ Some t → FamilyStands (Reopened w) r t
 reopened_stands w s r t m e vault =
@@ -145,7 +144,7 @@ reopened_stands w s r t m e vault =
     c = s.crossed.relations r m
 
     at : (n : ℕ) → n < length w.volumes → volume_at (Reopened w) n ≡ operations.opened (volume_at w n)
-    at n l = mapped_at operations.opened w.volumes no_volume n l
+    at n l = reopened_at w n l
 
     within : (n : ℕ) → n < length (map operations.opened w.volumes) → n < length w.volumes
     within n k = rw (sym (mapped_length operations.opened w.volumes)) k
@@ -168,8 +167,8 @@ rejoined_stands w h r t m f = let (q, n, e) = from_map rejoined w.relations r m 
     go q n (Some u) g i = subst (FamilyStands w (rejoined q)) (same_Some _ t i)
         (family_on w q (rejoined q) u _ refl refl refl refl (λ j l. l) (λ j b z. (j, same_base_or_first q (rejoined q) u.legs j refl b, z)) (h q u n g))
 
-pub restarts_keep_all_families : (w : Up) → SoundUp w → FamiliesStand (opened w)
-restarts_keep_all_families w s = record {
+pub restarts_keep_own_families : (w : Up) → SoundUp w → FamiliesStand (opened w)
+restarts_keep_own_families w s = record {
   given = restarts_keep_given w s.families_stand.given;
   transfers = listed (Reopened w) w.next_relation w.next_transfer _ (rejoined_idle (Reopened w)) (rejoined_stands (Reopened w) (reopened_stands w s));
 }
