@@ -1,7 +1,9 @@
 -- The operations as an event's answer tells them, and as a call does.
-use Rattle.std.proofs.Common.{◌≡◌, ◌≢◌, ℕ, zero, suc, ◌+◌, ◌*◌, ◌<◌, ◌≤◌, ◌==◌, ◌||◌, ◌&&◌, Bool, true, false, not, cond, List, [], ◌∷◌, length, filter, refl, sym, ap, ◌∙◌, arith, inl, inr}
+use Rattle.std.proofs.Common.{◌≡◌, ◌≢◌, ℕ, zero, suc, ◌+◌, ◌*◌, ◌<◌, ◌≤◌, ◌==◌, ◌||◌, ◌&&◌, Bool, true, false, not, cond, List, [], ◌∷◌, length, filter, sym, ap, ◌∙◌, arith, inl, inr}
 use Rattle.std.proofs.lemmas.Bool.{cases_eq}
 use Rattle.std.proofs.lemmas.Bool.Decides.{nat_tests}
+use Rattle.std.proofs.Math.Bool.{or-false}
+use Rattle.std.proofs.lemmas.List.Elements.{filter_agree}
 use Rattle.sm_base.specs.declared.numbers.Ident.{Ident}
 use Rattle.sm_defs.specs.Image.{stands}
 use Rattle.sm_base.specs.declared.limits.TheConstants.{MOST_SNAPSHOTS, LAST_NUMBER}
@@ -38,19 +40,11 @@ same_back : (i j : Ident) → (same_ident j i || false) ≡ same_ident i j
 same_back i j =
     let a : (j.origin == i.origin) ≡ (i.origin == j.origin) = grind (arith, nat_tests) in
     let b : (j.seq == i.seq) ≡ (i.seq == j.seq) = grind (arith, nat_tests) in
-    rw (a, b) (or_false (same_ident i j))
-  where
-    or_false : (x : Bool) → (x || false) ≡ x
-    or_false true = refl
-    or_false false = refl
-
-filter_same : {X : Type 0} (p q : X → Bool) (xs : List X) → ((x : X) → p x ≡ q x) → filter p xs ≡ filter q xs
-filter_same p q [] same = refl
-filter_same p q (x ∷ xs) same = rw (same x, filter_same p q xs same) refl
+    rw (a, b) (or-false (same_ident i j))
 
 pub removed_one : (v : Volume) (i : Ident) → removed v (i ∷ []) ≡ without (λ s. same_ident s.ident i) v
 removed_one v i = ap (λ (ss : List Snapshot). let w : Volume = record v { snapshots = ss } in w)
-    (filter_same (λ s. not (has_ident (i ∷ []) s.ident)) (λ s. not (same_ident s.ident i)) v.snapshots (λ s. ap not (same_back s.ident i)))
+    (filter_agree (λ s. not (has_ident (i ∷ []) s.ident)) (λ s. not (same_ident s.ident i)) (λ s. ap not (same_back s.ident i)) v.snapshots)
 
 -- the first of the free numbers is the least
 first_passes : (p : ℕ → Bool) (a k n : ℕ) → a ≤ n → n < a + k → p n ≡ true → ((m : ℕ) → a ≤ m → m < n → p m ≡ false) → first_of (filter p (numbers a k)) ≡ n

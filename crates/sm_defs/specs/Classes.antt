@@ -20,6 +20,6 @@ class_of p s = class_by p.kind p.rules s.label s.maker
 abbrev pub has_class : Policy → Snapshot → Bool
 has_class p s = is_some (class_of p s)
 
--- the classes of a list, where each snapshot has its own by the function
+-- the classes of a list, each told by the function
 abbrev pub classes : (Snapshot → Option (List ℕ)) → List Snapshot → List (Option (List ℕ))
 classes class ss = map class ss

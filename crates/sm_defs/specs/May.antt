@@ -18,8 +18,7 @@ layouts_differ p source destination = is_mirror p.kind && not (source.family == 
 abbrev pub is_uninitialized : Volume → Relationship → Bool
 is_uninitialized v r = is_empty v.snapshots || (is_none r.base && is_none r.transfer)
 
--- v is the destination of r, and of each relationship below
-
+-- v is the destination of r, here and below
 abbrev pub may_initialize : {R : Type 0} → R → R → R → R → Volume → Relationship → Option R
 may_initialize writable initialized quiesced transferring v r =
     refused writable (is_rw v.kind) (
