@@ -22,7 +22,7 @@ use Rattle.sm_model.specs.Sound.{SoundUp}
 use Rattle.laws_cases.specs.Needs.{KeepsNeeded}
 use Rattle.laws_cases.proofs.Needed.Needs.{push_within}
 use Rattle.laws_cases.proofs.Answers.Changes.{RelationAt}
-use Rattle.laws_cases.proofs.Lists.Frames as frames
+use Rattle.sm_defs.proofs.Members as members
 use Rattle.laws_cases.proofs.Moves.Moves.{Aside, Turn, Start, Halve, Relates, IsMove, nothing, clock, new_policy, rule, creates, writes, drops, points, breaks, snaps, quiesces, resumes, ends, ends_settled, halts, halts_settled, starts, resyncs, deletes, releases, aside, relates, turns, begins, halves}
 use Rattle.laws_crossed.proofs.CrossedParts.{Differ, dest_key, to_apart, keys_thin, keys_fewer, keys_same, keys_new, crossed_volumes, crossed_set, counted, crossed_list, relation_counted, transfer_counted, SameEnds, relation_with, transfer_with}
 use Rattle.laws_crossed.proofs.CrossedKeys.{keys_push_none, keys_push_new, key_from, dest_is}
@@ -104,7 +104,7 @@ new_crossed w s d p h f =
 
 related : (w : Up) (s d : Found Volume) (p : Found Policy) → SoundUp w → Relates w s d p → Crossed (with_new_relation w s.at d.at p.at)
 related w s d p h f = crossed_list w (suc w.next_relation) w.next_transfer (w.relations ++ q ∷ [])
-    (frames.each_push (CrossedRelation (counted w (suc w.next_relation) w.next_transfer)) w.relations q (λ r m. relation_counted w _ _ r (omega arith) (h.crossed.relations r m)) (new_crossed w s d p h f))
+    (members.each_push (CrossedRelation (counted w (suc w.next_relation) w.next_transfer)) w.relations q (λ r m. relation_counted w _ _ r (omega arith) (h.crossed.relations r m)) (new_crossed w s d p h f))
     (λ r t m e. transfer r t e (among_append w.relations (q ∷ []) r m))
     (record {
       destinations = keys_push_new dest_key w.relations q d.at refl no_other (to_apart w h.crossed).destinations;
