@@ -3,15 +3,13 @@ use Rattle.std.proofs.Common.{◌≡◌, ℕ, zero, suc, ◌+◌, ◌<◌, ◌�
 use Rattle.std.proofs.lemmas.Bool.Decides.{nat_tests}
 use Rattle.std.specs.List.{prefix_len}
 use Rattle.sm_defs.specs.Words.{Found, found, next_place}
-use Rattle.sm_defs.proofs.Searches.{a_place, found_first, no_place, none_found as found_none}
+use Rattle.sm_defs.proofs.Searches.{found_by_position, none_by_position}
 use Rattle.oracle_world.specs.Finding.{IsFound}
 
 -- a position is the place of the first that passes
 pub is_found : {X : Type 0} (p : X → Bool) (xs : List X) (d : X) (o : Option ℕ) → o ≡ position p xs → IsFound p xs d o
-is_found p xs d None e = found_none p xs (no_place (prefix_len (λ y. not (p y)) xs) (length xs) (nat_lt (prefix_len (λ y. not (p y)) xs) (length xs)) refl (sym e))
-is_found p xs d (Some k) e =
-    let h = a_place (prefix_len (λ y. not (p y)) xs) (length xs) k (nat_lt (prefix_len (λ y. not (p y)) xs) (length xs)) refl (sym e) in
-    (found_first p xs k d h.0 h.1, h.1)
+is_found p xs d None e = none_by_position p xs (sym e)
+is_found p xs d (Some k) e = found_by_position p xs k d (sym e)
 
 -- an element that stands is the same whatever stands elsewhere
 pub there : {X : Type 0} (xs : List X) (k : ℕ) (d e : X) → k < length xs → get_or xs k d ≡ get_or xs k e

@@ -143,6 +143,15 @@ module _ (words : List ℕ) (at word : ℕ) (is : word ≡ get_or words (at / 64
   unfolding bit
   tested place here = ap (λ n. eqb n 1) (shr_and_one word (at % 64) ∙ ap (λ n. bit_at n (at % 64)) is) ∙ rw here refl
 
+-- two sets of as many places
+module _ (places others : ℕ) (words other_words : List ℕ) (xs ys : List Bool) (is : marks places words ≡ xs) (other_is : marks others other_words ≡ ys) (same : length ys ≡ length xs) where
+  pub places_agree : others ≡ places
+  places_agree = sym (length-marks others other_words) ∙ ap length other_is ∙ same ∙ sym (ap length is) ∙ length-marks places words
+
+  -- the words of the one are words of as many places as the other has
+  pub words_agree : AreWordsOf others other_words → AreWordsOf places other_words
+  words_agree are = subst (λ n. AreWordsOf n other_words) places_agree are
+
 -- the words of two sets of as many places are as many
 pub as_many : (places others : ℕ) (words other_words : List ℕ) → AreWordsOf places words → AreWordsOf others other_words → others ≡ places → length other_words ≡ length words
 as_many places others words other_words are too same = too.rows ∙ ap words_for same ∙ sym are.rows

@@ -87,11 +87,11 @@ pub none_found : {X : Type 0} (p : X → Bool) (xs : List X) → length xs ≤ p
 none_found p [] h = refl
 none_found p (x ∷ xs) h = none_by (p x) x (prefix_len (λ y. not (p y)) xs) (length xs) (found p xs) h (none_found p xs)
 
-pub no_place : (m l : ℕ) (b : Bool) → nat_lt m l ≡ b → cond b (Some m) None ≡ None → l ≤ m
+no_place : (m l : ℕ) (b : Bool) → nat_lt m l ≡ b → cond b (Some m) None ≡ None → l ≤ m
 no_place m l true e h = absurd (cc)
 no_place m l false e h = grind (arith, nat_tests)
 
-pub a_place : (m l k : ℕ) (b : Bool) → nat_lt m l ≡ b → cond b (Some m) None ≡ Some k → (m ≡ k) × (k < l)
+a_place : (m l k : ℕ) (b : Bool) → nat_lt m l ≡ b → cond b (Some m) None ≡ Some k → (m ≡ k) × (k < l)
 a_place m l k true e h = let same : m ≡ k = cc in let less : m < l = grind (arith, nat_tests) in (same, omega arith)
 a_place m l k false e h = absurd (cc)
 

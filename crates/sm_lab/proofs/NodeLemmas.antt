@@ -26,7 +26,7 @@ use Rattle.sm_model.specs.Answers.{Answer, and_then, refused_if, some_or, volume
 use Rattle.sm_model.specs.InRange.{HasRelation}
 use Rattle.sm_model.specs.OfVolumes as volumes
 use Rattle.sm_defs.specs.Operations as operations
-use Rattle.sm_defs.proofs.Searches.{a_place, found_first, no_place, none_found as found_none}
+use Rattle.sm_defs.proofs.Searches.{found_by_position, none_by_position}
 use Rattle.sm_lab.specs.Reporting.{IsServed}
 use Rattle.sm_lab.specs.Node.{volume_of, IsAnswered, IsWritten, IsSnapped, IsShown, ChangesOne, write_test, snap_test, read_test, create_test}
 use Rattle.sm_lab.specs.declared.volume.Volume.{Volume}
@@ -74,24 +74,19 @@ same_if vs at d w (Err x) h e = same_at vs at d w h e
 abbrev is_at : List ℕ → model.Volume → Bool
 is_at path v = bytes_eq v.path path
 
-abbrev before : List ℕ → List model.Volume → ℕ
-before path vs = prefix_len (λ v. not (is_at path v)) vs
-
 pub named_none : (w : Up) (path : List ℕ) → position (is_at path) w.volumes ≡ None → volume_named w path ≡ Err (refusals.NoVolume path)
 unfolding some_or
-named_none w path e = rw (found_none (is_at path) w.volumes (no_place (before path w.volumes) (length w.volumes) (nat_lt (before path w.volumes) (length w.volumes)) refl e)) refl
+named_none w path e = rw (none_by_position (is_at path) w.volumes e) refl
 
 abbrev pub place_of : Up → ℕ → Found model.Volume
 place_of w at = record { at = at; item = volume_at w at }
 
 pub named_some : (w : Up) (path : List ℕ) (at : ℕ) → position (is_at path) w.volumes ≡ Some at → volume_named w path ≡ Ok (place_of w at)
 unfolding some_or
-named_some w path at e =
-    let p = a_place (before path w.volumes) (length w.volumes) at (nat_lt (before path w.volumes) (length w.volumes)) refl e in
-    rw (found_first (is_at path) w.volumes at model.no_volume p.0 p.1) refl
+named_some w path at e = let f = found_by_position (is_at path) w.volumes at model.no_volume e in rw f.0 refl
 
 pub place_within : (w : Up) (path : List ℕ) (at : ℕ) → position (is_at path) w.volumes ≡ Some at → at < length w.volumes
-place_within w path at e = (a_place (before path w.volumes) (length w.volumes) at (nat_lt (before path w.volumes) (length w.volumes)) refl e).1
+place_within w path at e = (found_by_position (is_at path) w.volumes at model.no_volume e).1
 
 -- no volume has the path
 pub none_written : (w : Up) (path : List ℕ) (block fill : ℕ) → position (is_at path) w.volumes ≡ None → volumes.write w path block fill ≡ Err (refusals.NoVolume path)

@@ -1,15 +1,14 @@
-use Rattle.std.proofs.Common.{◌≡◌, ◌<◌, ◌/◌, ◌%◌, ℕ, Bool, ◌&&◌, ◌||◌, not, length, get_or, refl, sym, ap, ap₂, ◌∙◌, subst, arith}
+use Rattle.std.proofs.Common.{◌≡◌, ◌<◌, ◌/◌, ◌%◌, ℕ, Bool, ◌&&◌, ◌||◌, not, length, get_or, refl, sym, ap, ap₂, ◌∙◌, subst}
 use Rattle.std.proofs.lemmas.List.{with_items_is}
 use Rattle.std.specs.Simd.Lanes.{zip2}
 use Rattle.std.specs.Vec.{with_items}
 use Rattle.sm_bits.specs.Words.{bit, marks, AreWordsOf}
-use Rattle.sm_bits.proofs.Marks.{length-marks, as_many, joined_words, joined_marks}
+use Rattle.sm_bits.proofs.Marks.{length-marks, as_many, places_agree, words_agree, joined_words, joined_marks}
 use Rattle.sm_bits.proofs.map.BitMap.minus.Goals as goal
 
 pub subtract-requires-clause-same : goal.subtract-requires-clause-same
 subtract-requires-clause-same c =
-    let places : c.other.inside.places ≡ c.self.inside.places =
-    sym (length-marks c.other.inside.places c.other.inside.words.items) ∙ ap length c.other.view_is ∙ c.requires ∙ sym (ap length c.self.view_is) ∙ length-marks c.self.inside.places c.self.inside.words.items in
+    let places = places_agree c.self.inside.places c.other.inside.places c.self.inside.words.items c.other.inside.words.items c.args.self.now c.args.other.now c.self.view_is c.other.view_is c.requires in
     ap length c.deref.ensures.value
     ∙ as_many c.self.inside.places c.other.inside.places c.self.inside.words.items c.other.inside.words.items c.self.invariant c.other.invariant places
     ∙ sym (ap length c.deref_mut.ensures.value)
@@ -30,21 +29,17 @@ joins c place inside =
     c.subtract.ensures place (rw c.deref_mut.ensures.value inside)
     ∙ ap₂ (λ x y. joined (bit x place) (bit y place)) c.deref_mut.ensures.value c.deref.ensures.value
 
-places_agree : (c : goal.After-self-1) → c.other.inside.places ≡ c.self.inside.places
-places_agree c =
-    sym (length-marks c.other.inside.places c.other.inside.words.items) ∙ ap length c.other.view_is ∙ c.requires ∙ sym (ap length c.self.view_is) ∙ length-marks c.self.inside.places c.self.inside.words.items
-
-others_are : (c : goal.After-self-1) → AreWordsOf c.self.inside.places c.other.inside.words.items
-others_are c = subst (λ n. AreWordsOf n c.other.inside.words.items) (places_agree c) c.other.invariant
-
 pub invariant_of-self : goal.invariant_of-self
 invariant_of-self c =
+    let others = words_agree c.self.inside.places c.other.inside.places c.self.inside.words.items c.other.inside.words.items c.args.self.now c.args.other.now c.self.view_is c.other.view_is c.requires c.other.invariant in
     subst (AreWordsOf c.self.inside.places) (sym (is_new c))
-    (joined_words c.self.inside.places c.self.inside.words.items c.other.inside.words.items c.subtract.new.words c.self.invariant (others_are c) (same_length c) joined refl (joins c))
+    (joined_words c.self.inside.places c.self.inside.words.items c.other.inside.words.items c.subtract.new.words c.self.invariant others (same_length c) joined refl (joins c))
 
 pub returns : goal.returns
 returns c =
     let places = c.self.inside.places in
+    let agree = places_agree c.self.inside.places c.other.inside.places c.self.inside.words.items c.other.inside.words.items c.args.self.now c.args.other.now c.self.view_is c.other.view_is c.requires in
+    let others = words_agree c.self.inside.places c.other.inside.places c.self.inside.words.items c.other.inside.words.items c.args.self.now c.args.other.now c.self.view_is c.other.view_is c.requires c.other.invariant in
     ap (marks places) (is_new c)
-    ∙ joined_marks places c.self.inside.words.items c.other.inside.words.items c.subtract.new.words c.self.invariant (others_are c) (same_length c) joined refl (joins c)
-    ∙ ap₂ (zip2 joined) c.self.view_is (ap (λ n. marks n c.other.inside.words.items) (sym (places_agree c)) ∙ c.other.view_is)
+    ∙ joined_marks places c.self.inside.words.items c.other.inside.words.items c.subtract.new.words c.self.invariant others (same_length c) joined refl (joins c)
+    ∙ ap₂ (zip2 joined) c.self.view_is (ap (λ n. marks n c.other.inside.words.items) (sym agree) ∙ c.other.view_is)
