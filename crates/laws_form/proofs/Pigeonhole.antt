@@ -10,9 +10,6 @@ abbrev without : ℕ → List ℕ → List ℕ
 without n [] = []
 without n (x ∷ xs) = cond (x == n) (without n xs) (x ∷ without n xs)
 
-same_number : (x n : ℕ) → (x == n) ≡ true → x ≡ n
-same_number x n e = grind (arith, nat_tests)
-
 other_number : (x t n : ℕ) → (t == n) ≡ false → (x == n) ≡ true → (x == t) ≡ false
 other_number x t n ne e = grind (arith, nat_tests)
 
@@ -36,7 +33,7 @@ last_other c false false m w r = omega arith
 
 one_less_by : (n x : ℕ) (xs : List ℕ) (b : Bool) → (x == n) ≡ b → 0 < n → distinct xs ≡ distinct (without n xs) + cond (stands n xs) 1 0 → distinct (x ∷ xs) ≡ distinct (without n (x ∷ xs)) + cond (stands n (x ∷ xs)) 1 0
 one_less_by n x xs true eb pos ih =
-    let same : x ≡ n = same_number x n eb in
+    let same : x ≡ n = eqb-true x n eb in
     let zero_not : (x == 0) ≡ false = grind (arith, nat_tests) in
     let sc : stands x xs ≡ stands n xs = rw same refl in
     rw (eb, zero_not, sc) (last_here (stands n xs) (distinct xs) (distinct (without n xs)) ih)

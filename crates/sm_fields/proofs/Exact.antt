@@ -19,11 +19,13 @@ pub and_then_err : {A B : Type 0} (r : Result A ℕ) (f : A → Result B ℕ) (d
 and_then_err (Ok x) f d e = inr (x, refl, e)
 and_then_err (Err k) f d e = inl cc
 
-chosen_ok : {A : Type 0} (b : Bool) (d : ℕ) (x y : A) → cond b (Ok x) (Err d) ≡ Ok y → (b ≡ true) × (x ≡ y)
+-- the value of a choice that did not fail
+pub chosen_ok : {A : Type 0} (b : Bool) (d : ℕ) (x y : A) → cond b (Ok x) (Err d) ≡ Ok y → (b ≡ true) × (x ≡ y)
 chosen_ok true d x y e = (refl, cc)
 chosen_ok false d x y e = absurd cc
 
-chosen_err : {A : Type 0} (b : Bool) (d k : ℕ) (x : A) → cond b (Ok x) (Err d) ≡ Err k → (b ≡ false) × (d ≡ k)
+-- the fault of a choice that failed
+pub chosen_err : {A : Type 0} (b : Bool) (d k : ℕ) (x : A) → cond b (Ok x) (Err d) ≡ Err k → (b ≡ false) × (d ≡ k)
 chosen_err true d k x e = absurd cc
 chosen_err false d k x e = (refl, cc)
 

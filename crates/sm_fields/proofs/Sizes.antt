@@ -1,10 +1,11 @@
 -- A number in its bytes is that number again, for each size.
-use Rattle.std.proofs.Common.{◌≡◌, ℕ, suc, ◌+◌, ◌<◌, List, [], ◌∷◌, length, get_or, take, drop, refl, arith, inl, inr}
+use Rattle.std.proofs.Common.{◌≡◌, ℕ, suc, ◌+◌, ◌<◌, List, [], ◌∷◌, length, get_or, take, drop, refl, arith, inl, inr, length-append}
 use Rattle.std.proofs.lemmas.Bool.{cases_lt}
 use Rattle.std.proofs.lemmas.List.{length-take, get_or-drop, get_or-take, get_or_past}
 use Rattle.std.proofs.lemmas.Nat.{be_bytes_4, be_bytes_8, from_be_bytes-to_be_bytes_4, from_be_bytes-to_be_bytes_8}
+use Rattle.sm_base.specs.declared.numbers.Ident.{Ident}
 use Rattle.sm_fields.specs.Format.{Size, bits8, bits32, bits64}
-use Rattle.sm_fields.specs.Grammar.{digits, limit}
+use Rattle.sm_fields.specs.Grammar.{digits, limit, identity_digits}
 use Rattle.sm_fields.specs.Place.{IsBytes}
 use Rattle.sm_fields.specs.Reading.{width, number_of}
 
@@ -48,3 +49,6 @@ pub number_of_below : (size : Size) (bytes : List ℕ) → IsBytes bytes → num
 number_of_below bits8 bytes fits = fits 0
 number_of_below bits32 bytes fits = omega (arith, fits 0, fits 1, fits 2, fits 3)
 number_of_below bits64 bytes fits = omega (arith, fits 0, fits 1, fits 2, fits 3, fits 4, fits 5, fits 6, fits 7)
+
+pub length-identity_digits : (i : Ident) → length (identity_digits i) ≡ 12
+length-identity_digits i = omega (arith, length-append (digits bits32 i.origin) (digits bits64 i.seq), length-digits bits32 i.origin, length-digits bits64 i.seq)

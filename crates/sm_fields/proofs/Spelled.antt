@@ -77,9 +77,6 @@ option_spelled f Fits spelling by = record {
 
 -- ---- words and heads, which have no value to speak of
 
-eqb_is : (a b : ℕ) → (a == b) ≡ true → a ≡ b
-eqb_is a b e = eqb-true a b e
-
 eqb_same : (a : ℕ) → (a == a) ≡ true
 eqb_same a = grind arith
 
@@ -88,7 +85,7 @@ unfolding word digits
 word_only [] b front s = s
 word_only (x ∷ bytes) b front s =
     let t = word_only bytes b s.2 s.4 in
-    (t.0, s.5 ∙ rw (s.3.0.1, eqb_is s.0 x s.3.1, t.1) refl)
+    (t.0, s.5 ∙ rw (s.3.0.1, eqb-true s.0 x s.3.1, t.1) refl)
 
 pub word_again : (bytes : List ℕ) → ((i : ℕ) → get_or bytes i 0 < 256) → Spells (word bytes) true bytes
 unfolding word digits
@@ -99,7 +96,7 @@ pub head_only : (magic : List ℕ) (behind : ℕ) (b : Bool) (front : List ℕ) 
 head_only magic behind b front s =
     let m = word_only magic s.0 s.1 s.3 in
     let t = s.4 in
-    let is : t.0 ≡ behind = eqb_is t.0 behind t.3.1 in
+    let is : t.0 ≡ behind = eqb-true t.0 behind t.3.1 in
     (t.4.0, omega (arith, is, t.3.0.0), s.5 ∙ rw (m.1, t.5, t.3.0.1, is, t.4.1) (ap (λ (x : List ℕ). magic ++ x) (append-nil (digits bits32 behind))))
 
 pub head_again : (magic : List ℕ) (behind : ℕ) → ((i : ℕ) → get_or magic i 0 < 256) → behind < 2 ^ 32 → Spells (head magic behind) true (magic ++ digits bits32 behind)

@@ -1,5 +1,5 @@
 -- The laws of a record that fills its bytes, and that a fault and a spelling exclude each other.
-use Rattle.std.proofs.Common.{◌≡◌, ℕ, ◌+◌, ◌↔◌, Bool, true, false, cond, eqb, List, [], ◌++◌, length, Ok, Err, refl, sym, ap, subst, ◌∙◌, arith, inl, inr}
+use Rattle.std.proofs.Common.{◌≡◌, ℕ, ◌+◌, ◌↔◌, false, cond, eqb, List, [], ◌++◌, length, Ok, Err, refl, sym, ap, subst, ◌∙◌, arith, inl, inr}
 use Rattle.std.proofs.lemmas.Bool.{eqb-true}
 use Rattle.std.proofs.lemmas.List.{append-nil, nil_from_length}
 use Rattle.std.specs.Prelude.{IfOk, IfErr, IfSome, Option, Some, None, Result}
@@ -8,18 +8,10 @@ use Rattle.sm_fields.specs.Format.{Format}
 use Rattle.sm_fields.specs.Grammar.{Spells, BeginsWithNone, Fault, FirstFault, IsSpelledBy}
 use Rattle.sm_fields.specs.Place.{Place, IsBytes, Takes}
 use Rattle.sm_fields.specs.Reading.{read, whole}
-use Rattle.sm_fields.proofs.Exact.{and_then_ok, and_then_err, read_takes, read_again, read_faults, faults_stop}
+use Rattle.sm_fields.proofs.Exact.{chosen_ok, chosen_err, and_then_ok, and_then_err, read_takes, read_again, read_faults, faults_stop}
 
 abbrev standing : ℕ → List ℕ → Place
 standing at bytes = record { at = at; rest = bytes }
-
-ended_ok : {A : Type 0} (b : Bool) (d : ℕ) (x y : A) → cond b (Ok x) (Err d) ≡ Ok y → (b ≡ true) × (x ≡ y)
-ended_ok true d x y e = (refl, cc)
-ended_ok false d x y e = absurd cc
-
-ended_err : {A : Type 0} (b : Bool) (d k : ℕ) (x : A) → cond b (Ok x) (Err d) ≡ Err k → (b ≡ false) × (d ≡ k)
-ended_err true d k x e = absurd cc
-ended_err false d k x e = (refl, cc)
 
 -- no bytes have both a spelling at their front and a fault
 pub fault_means_none : {A : Type 0} (f : Format A) (bytes : List ℕ) (further : ℕ) → IsBytes bytes → Fault f bytes further → BeginsWithNone f bytes
@@ -31,7 +23,7 @@ fault_means_none f bytes further fits fault value front rest b =
 pub whole_spelled : {A : Type 0} (f : Format A) (bytes : List ℕ) (value : A) → IsBytes bytes → whole f bytes ≡ Ok value → Spells f value bytes
 whole_spelled f bytes value fits e =
     let a = and_then_ok (read f (standing 0 bytes)) (λ x. cond (eqb (length x.1.rest) 0) (Ok x.0) (Err x.1.at)) value e in
-    let g = ended_ok (eqb (length a.0.1.rest) 0) a.0.1.at a.0.0 value a.2 in
+    let g = chosen_ok (eqb (length a.0.1.rest) 0) a.0.1.at a.0.0 value a.2 in
     let t = read_takes f (standing 0 bytes) a.0 fits a.1 in
     let nothing : a.0.1.rest ≡ [] = nil_from_length a.0.1.rest (eqb-true _ _ g.0) in
     let all : bytes ≡ t.0.0 = t.0.2 ∙ ap (λ (r : List ℕ). t.0.0 ++ r) nothing ∙ append-nil t.0.0 in
@@ -45,7 +37,7 @@ whole_faults f bytes at fits e =
     elim (and_then_err (read f (standing 0 bytes)) (λ x. cond (eqb (length x.1.rest) 0) (Ok x.0) (Err x.1.at)) at e) [
       | inl failed ↦ let t = read_faults f (standing 0 bytes) at fits failed in inl (subst (Fault f bytes) (omega (arith, t.2)) t.1)
       | inr a ↦
-          let g = ended_err (eqb (length a.0.1.rest) 0) a.0.1.at at a.0.0 a.2 in
+          let g = chosen_err (eqb (length a.0.1.rest) 0) a.0.1.at at a.0.0 a.2 in
           let t = read_takes f (standing 0 bytes) a.0 fits a.1 in
           inr (a.0.0, t.0.0, a.0.1.rest, (t.0.1, t.0.2), grind (arith, g.0), omega (arith, g.1, t.0.3))
     ]

@@ -5,19 +5,12 @@ use Rattle.std.specs.List.{list_any, AllByRecursion}
 use Rattle.std.proofs.lemmas.Bool.{and_from, and_parts, eqb-true, not-true, or_parts}
 use Rattle.sm_base.specs.declared.numbers.Ident.{Ident}
 use Rattle.sm_defs.specs.Words.{Among, KeysDiffer, same_ident}
+use Rattle.sm_defs.proofs.Idents.{same_is}
 use Rattle.sm_root.specs.declared.root.RootSnapshot.{RootSnapshot}
 use Rattle.sm_root.specs.Condition.{ident_of}
 
 abbrev pub known : List RootSnapshot → Ident → Bool
 known before i = list_any (λ s. same_ident s.ident i) before
-
-same_is : (i j : Ident) → same_ident i j ≡ true → i ≡ j
-same_is i j e =
-    let both = and_parts (i.origin == j.origin) (i.seq == j.seq) e in
-    let origin : i.origin ≡ j.origin = eqb-true _ _ both.0 in
-    let seq : i.seq ≡ j.seq = eqb-true _ _ both.1 in
-    let first : i ≡ record i { origin = j.origin } = ap (λ (x : ℕ). record i { origin = x }) origin in
-    first ∙ ap (λ (x : ℕ). record j { seq = x }) seq
 
 same_self : (i : Ident) → same_ident i i ≡ true
 same_self i = and_from (i.origin == i.origin) (i.seq == i.seq) (grind arith) (grind arith)

@@ -9,7 +9,7 @@ use Rattle.sm_base.specs.declared.numbers.Ident.{Ident}
 use Rattle.sm_defs.specs.Words.{Among}
 use Rattle.sm_fields.specs.Format.{bits8, bits32, bits64}
 use Rattle.sm_fields.specs.Grammar.{digits, with_length, identity_digits}
-use Rattle.sm_fields.proofs.Sizes.{length-digits}
+use Rattle.sm_fields.proofs.Sizes.{length-identity_digits, length-digits}
 use Rattle.sm_root.specs.declared.parts.Sizes.{Sizes}
 use Rattle.sm_root.specs.declared.head.Head.{Head}
 use Rattle.sm_root.specs.declared.root.Root.{Root}
@@ -36,9 +36,6 @@ length-map_bytes (n ∷ ns) = omega (arith, ap length (flat_map-cons (digits bit
 length-words_digits : (w : Head) → length (words_digits w) ≡ length w.name + length (label_text w.label) + 14
 unfolding words_digits
 length-words_digits w = omega (arith, length-append (with_length w.name) (with_length (label_text w.label) ++ (digits bits64 w.time ++ digits bits32 w.made)), length-append (with_length (label_text w.label)) (digits bits64 w.time ++ digits bits32 w.made), length-append (digits bits64 w.time) (digits bits32 w.made), length-digits bits64 w.time, length-digits bits32 w.made)
-
-length-identity_digits : (i : Ident) → length (identity_digits i) ≡ 12
-length-identity_digits i = omega (arith, length-append (digits bits32 i.origin) (digits bits64 i.seq), length-digits bits32 i.origin, length-digits bits64 i.seq)
 
 snapshot_short : (logical : ℕ) (s : RootSnapshot) → logical ≤ 4096 → IsSnapshot logical s → length (snapshot_bytes s) ≤ 16505
 unfolding snapshot_bytes

@@ -9,14 +9,14 @@ use Rattle.sm_disk.specs.Image as disk
 use Rattle.sm_root.specs.declared.root.RootSnapshot.{RootSnapshot}
 use Rattle.sm_root.specs.Condition.{map_of}
 use Rattle.std.proofs.lemmas.List.{map-append}
+use Rattle.sm_defs.proofs.Members.{among_map, from_map as among_map_from}
 use Rattle.volume_store.specs.declared.faults.VolumeFault.TheVariants.{SnapFull}
 use Rattle.sm_root.specs.declared.head.Head.{Head}
 use Rattle.volume_store.specs.Maps.{Maps, AreMapsOf, all_maps}
 use Rattle.volume_store.specs.Next as store
 use Rattle.volume_store.specs.Refusals as store_refusals
 use Rattle.sm_root.specs.Condition as store_snapshot
-use Rattle.volume_store.proofs.MapLemmas.{among_map}
-use Rattle.volume_store.proofs.Sound.{among_filter, among_map_from}
+use Rattle.volume_store.proofs.Sound.{among_filter}
 use Rattle.sm_volume.specs.Seen.{image_of, seen_snapshot, volume_of}
 use Rattle.sm_volume.specs.Assigned.{CanAdopt, snapshot_of, adopted, staying}
 use Rattle.sm_volume.specs.Refusals.{adopt_refusal}

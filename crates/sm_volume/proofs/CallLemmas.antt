@@ -33,12 +33,11 @@ use Rattle.volume_store.specs.Refusals.{used_of}
 use Rattle.volume_store.specs.Refusals as store_refusals
 use Rattle.sm_root.specs.Condition as store_snapshot
 use Rattle.volume_store.proofs.Found.{nowhere}
-use Rattle.volume_store.proofs.MapLemmas.{among_map}
-use Rattle.volume_store.proofs.Sound.{among_map_from}
 use Rattle.sm_volume.specs.Seen.{block_of, image_of, seen_snapshot, volume_of}
 use Rattle.sm_volume.specs.Mounted.{Mounted, mounted}
 use Rattle.sm_volume.specs.Assigned.{HasBlock, snapped, staying, IsReverted}
 use Rattle.sm_defs.specs.Operations.{IsLeastFree, least_free, written, removed, reverted}
+use Rattle.sm_defs.proofs.Members.{among_map, from_map as among_map_from}
 use Rattle.sm_volume.specs.Refusals.{snapshot_refusal, remove_refusal, write_refusal, read_refusal, revert_refusal, image_seen, unless_seen}
 use Rattle.sm_volume.proofs.BlockLemmas.{bytes_same, volume_used, keeps_others}
 use Rattle.sm_volume.proofs.SeenLemmas.{used_seen, uses_seen, any_seen, has_seen, length_seen, filter_seen, find_seen, up_to_seen, all_images}

@@ -15,6 +15,6 @@ mod open;
 mod restart;
 mod volume;
 
-pub use laws::{disks_go_together, part_goes_on, part_is_committed, shown_at_any_place};
+pub use laws::{part_goes_on, part_is_committed, shown_at_any_place};
 pub use volume::Volume;
 pub use volume_store::{Head, View, VolumeFault, look};

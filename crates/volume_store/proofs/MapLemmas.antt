@@ -18,10 +18,6 @@ among_get [] i d less = absurd (omega arith)
 among_get (x ∷ xs) zero d less = inl refl
 among_get (x ∷ xs) (suc i) d less = inr (among_get xs i d (omega arith))
 
-pub among_map : {X Y : Type 0} (f : X → Y) (xs : List X) (x : X) → Among xs x → Among (map f xs) (f x)
-among_map f [] x is = absurd is
-among_map f (y ∷ ys) x is = elim is [ inl here ↦ inl (ap f here) | inr there ↦ inr (among_map f ys x there) ]
-
 pub has-free_of : (used : List Bool) (n : ℕ) → 1 ≤ n → n < length used → has (free_of used) n ≡ not (has used n)
 has-free_of [] n one less = absurd (omega arith)
 has-free_of (hole ∷ numbers) zero one less = absurd (omega arith)

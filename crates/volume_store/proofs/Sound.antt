@@ -8,6 +8,8 @@ use Rattle.sm_base.specs.declared.numbers.Ident.{Ident}
 use Rattle.sm_base.specs.declared.numbers.Kind.{Kind}
 use Rattle.sm_base.specs.declared.limits.TheConstants.{MOST_SNAPSHOTS, LAST_NUMBER}
 use Rattle.sm_defs.specs.Words.{Among, KeysDiffer, has_ident}
+use Rattle.sm_defs.proofs.Members.{among_append, among_each as all_at, among_map, each_among as all_from, from_map as among_map_from}
+use Rattle.sm_defs.proofs.Keys.{differ_filter, differ_push}
 use Rattle.sm_root.specs.declared.root.Root.{Root}
 use Rattle.sm_root.specs.declared.root.RootSnapshot.{RootSnapshot}
 use Rattle.sm_root.specs.Condition.{IsRoot, IsSnapshot, StandsAt, ident_of, map_of, maps_of}
@@ -15,7 +17,6 @@ use Rattle.volume_store.specs.Maps.{Maps, AreMapsOf, all_maps}
 use Rattle.sm_root.specs.declared.head.Head.{Head}
 use Rattle.sm_root.specs.Condition.{snapshot_of, IsHead}
 use Rattle.volume_store.specs.Next.{staying, without, snapped, adopted, reverted, next_after}
-use Rattle.volume_store.proofs.MapLemmas.{among_map}
 
 pub among_filter : {X : Type 0} (p : X → Bool) (xs : List X) (x : X) → Among (filter p xs) x → Among xs x
 among_filter p [] x is = is
@@ -24,38 +25,8 @@ among_filter p (y ∷ ys) x is = elim (cases_Bool (p y)) [
   | inr goes ↦ inr (among_filter p ys x (subst (λ b. Among (cond b (y ∷ filter p ys) (filter p ys)) x) goes is))
 ]
 
-pub among_append : {X : Type 0} (xs ys : List X) (x : X) → Among (xs ++ ys) x → Among xs x ⊎ Among ys x
-among_append [] ys x is = inr is
-among_append (z ∷ zs) ys x is = ⊎_elim (λ here. inl (inl here)) (λ there. ⊎_elim (λ a. inl (inr a)) (λ b. inr b) (among_append zs ys x there)) is
-
-pub among_map_from : {X Y : Type 0} (f : X → Y) (xs : List X) (y : Y) → Among (map f xs) y → (x : X) × Among xs x × (y ≡ f x)
-among_map_from f [] y is = absurd is
-among_map_from f (z ∷ zs) y is = ⊎_elim (λ here. (z, inl refl, here)) (λ there. let w = among_map_from f zs y there in (w.0, inr w.1, w.2)) is
-
-pub all_from : {X : Type 0} (P : X → Type 0) (xs : List X) → ((x : X) → Among xs x → P x) → AllByRecursion P xs
-all_from P [] each = tt
-all_from P (x ∷ xs) each = (each x (inl refl), all_from P xs (λ y is. each y (inr is)))
-
-pub all_at : {X : Type 0} (P : X → Type 0) (xs : List X) (x : X) → AllByRecursion P xs → Among xs x → P x
-all_at P [] x all is = absurd is
-all_at P (y ∷ ys) x all is = ⊎_elim (λ here. subst P (sym here) all.0) (λ there. all_at P ys x all.1 there) is
-
-pub differ_filter : {X K : Type 0} (key : X → K) (p : X → Bool) (xs : List X) → KeysDiffer key xs → KeysDiffer key (filter p xs)
-differ_filter key p [] differ = tt
-differ_filter key p (x ∷ xs) differ = elim (cases_Bool (p x)) [
-  | inl stays ↦ subst (λ b. KeysDiffer key (cond b (x ∷ filter p xs) (filter p xs))) (sym stays)
-      (all_from (λ y. ¬ (key y ≡ key x)) (filter p xs) (λ y is. all_at (λ z. ¬ (key z ≡ key x)) xs y differ.0 (among_filter p xs y is)), differ_filter key p xs differ.1)
-  | inr goes ↦ subst (λ b. KeysDiffer key (cond b (x ∷ filter p xs) (filter p xs))) (sym goes) (differ_filter key p xs differ.1)
 ]
 
-pub differ_push : {X K : Type 0} (key : X → K) (xs : List X) (x : X) → KeysDiffer key xs → ((y : X) → Among xs y → ¬ (key y ≡ key x)) → KeysDiffer key (xs ++ x ∷ [])
-differ_push key [] x differ new = (tt, tt)
-differ_push key (y ∷ ys) x differ new = (
-  all_from (λ z. ¬ (key z ≡ key y)) (ys ++ x ∷ []) (λ z is. ⊎_elim
-      (λ a. all_at (λ w. ¬ (key w ≡ key y)) ys z differ.0 a)
-      (λ b. ⊎_elim (λ here. λ e. new y (inl refl) (sym e ∙ ap key here)) (λ none. absurd none) b)
-      (among_append ys (x ∷ []) z is)),
-  differ_push key ys x differ.1 (λ z is. new z (inr is)),
 )
 
 -- fewer maps

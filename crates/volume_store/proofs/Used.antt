@@ -12,8 +12,8 @@ use Rattle.sm_defs.specs.Image.{stands, distinct}
 use Rattle.sm_defs.specs.Words.{Among}
 use Rattle.volume_store.specs.Maps.{Maps, uses, all_maps, AreMapsOf, AreFree, IsLeastFree}
 use Rattle.std.proofs.lemmas.List.{get_or_past}
+use Rattle.sm_defs.proofs.Members.{among_append}
 use Rattle.volume_store.proofs.PutLemmas.{where_it_stands}
-use Rattle.volume_store.proofs.Sound.{among_append}
 
 passing_none : (p : ℕ → Bool) (n : ℕ) → ((i : ℕ) → p i ≡ false) → passing p n ≡ 0
 unfolding passing

@@ -1,8 +1,7 @@
-use Rattle.std.proofs.Common.{◌≡◌, ◌<◌, ◌≤◌, ◌+◌, length, Bool, true, false, refl, arith, length-append}
-use Rattle.sm_base.specs.declared.numbers.Ident.{Ident}
-use Rattle.sm_fields.specs.Format.{number, bits32, bits64, text, truth, identity}
+use Rattle.std.proofs.Common.{◌≡◌, ◌<◌, ◌≤◌, ◌+◌, length, Bool, true, false, refl, arith}
+use Rattle.sm_fields.specs.Format.{number, text, truth, identity}
 use Rattle.sm_fields.specs.Grammar.{digits, limit, with_length, truth_digits, identity_digits, IsIdentity}
-use Rattle.sm_fields.proofs.Sizes.{length-digits}
+use Rattle.sm_fields.proofs.Sizes.{length-digits, length-identity_digits}
 use Rattle.sm_fields.proofs.Spelled.{number_spelled, text_spelled, truth_spelled, identity_spelled}
 use Rattle.sm_fields.proofs.Whole.{spelled_is_read}
 use Rattle.sm_fields.proofs.laws.written_is_read.Goals as goal
@@ -10,9 +9,6 @@ use Rattle.sm_fields.proofs.laws.written_is_read.Goals as goal
 length-truth_digits : (v : Bool) → length (truth_digits v) ≡ 1
 length-truth_digits true = refl
 length-truth_digits false = refl
-
-length-identity_digits : (i : Ident) → length (identity_digits i) ≡ 12
-length-identity_digits i = omega (arith, length-append (digits bits32 i.origin) (digits bits64 i.seq), length-digits bits32 i.origin, length-digits bits64 i.seq)
 
 pub returns-clause-numbers : goal.returns-clause-numbers
 returns-clause-numbers c size n at rest lt = spelled_is_read (number size) (λ n. n < limit size) (digits size) (number_spelled size) n at _ rest lt (length-digits size n)

@@ -1,9 +1,10 @@
 use Rattle.std.proofs.Common.{◌≡◌, ◌⊎◌, inr, ◌<◌, ◌≤◌, ◌||◌, List, [], ℕ, length, get_or, map, take, ◌∙◌, ap, ap₂, subst, arith}
 use Rattle.sm_defs.specs.Image.{stands}
 use Rattle.sm_defs.specs.Words.{Among}
+use Rattle.sm_defs.proofs.Members.{among_map}
 use Rattle.sm_root.specs.declared.root.RootSnapshot.{RootSnapshot}
 use Rattle.sm_root.specs.Condition.{map_of}
-use Rattle.volume_store.proofs.MapLemmas.{among_get, among_map, among_map_take, known_beside, uses_next}
+use Rattle.volume_store.proofs.MapLemmas.{among_get, among_map_take, known_beside, uses_next}
 use Rattle.volume_store.proofs.marks.held_numbers.Goals as goal
 
 pub mark-requires-clause-inside : goal.mark-requires-clause-inside

@@ -1,7 +1,8 @@
 use Rattle.std.proofs.Common.{◌-◌, inr, List, ℕ, length, map, sym, subst}
 use Rattle.sm_defs.specs.Words.{Among}
+use Rattle.sm_defs.proofs.Members.{among_map}
 use Rattle.sm_root.specs.Condition.{map_of}
-use Rattle.volume_store.proofs.MapLemmas.{among_at_place, among_map}
+use Rattle.volume_store.proofs.MapLemmas.{among_at_place}
 use Rattle.volume_store.proofs.marks.last_map.Goals as goal
 
 pub returns-in-Some : goal.returns-in-Some

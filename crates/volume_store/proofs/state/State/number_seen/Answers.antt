@@ -3,10 +3,10 @@ use Rattle.std.specs.Option.{option_map}
 use Rattle.sm_root.specs.Condition.{map_of}
 use Rattle.std.specs.List.{find}
 use Rattle.sm_defs.specs.Words.{Among, same_ident}
+use Rattle.sm_defs.proofs.Members.{among_map}
 use Rattle.volume_store.specs.Maps.{Maps}
 use Rattle.volume_store.specs.Refusals.{map_seen}
 use Rattle.volume_store.proofs.Found.{if_ok_more}
-use Rattle.volume_store.proofs.MapLemmas.{among_map}
 use Rattle.volume_store.proofs.state.State.number_seen.Goals as goal
 
 pub returns-in-Some-clause-seen : goal.returns-in-Some-clause-seen
