@@ -1,5 +1,5 @@
 -- A set of places below a length, as the list of its marks: true at each place that is in the set.
-use Rattle.std.specs.Prelude.{◌≡◌, ℕ, ◌<◌, ◌≤◌, ◌&&◌, ◌||◌, not, Bool, true, false, List, Option, None, Some, MatchOption, slice_index_or, count_by}
+use Rattle.std.specs.Prelude.{◌≡◌, ℕ, ◌<◌, ◌≤◌, ◌&&◌, ◌||◌, not, Bool, true, false, List, Option, MatchOption, slice_index_or, count_by}
 use Rattle.std.specs.Simd.Lanes.{zip2}
 
 -- the place is in the set

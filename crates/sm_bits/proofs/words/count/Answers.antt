@@ -1,4 +1,4 @@
-use Rattle.std.proofs.Common.{◌≡◌, ℕ, ◌+◌, ◌*◌, ◌≤◌, ◌<◌, ◌^◌, length, w64, arith, Fits}
+use Rattle.std.proofs.Common.{ℕ, ◌+◌, ◌*◌, ◌≤◌, ◌<◌, ◌^◌, length, w64, arith, Fits}
 use Rattle.std.specs.Simd.Lanes.{chunk}
 use Rattle.sm_bits.proofs.Rows.{whole_row, next_row}
 use Rattle.sm_bits.proofs.RowCount.{added, row_counted, rows_counted}

@@ -1,4 +1,4 @@
-use Rattle.std.proofs.Common.{length, ◌-◌, ◌*◌, ◌≡◌, ℕ, ◌%◌, ◌<◌, ◌≤◌, take, sum_by, count_ones}
+use Rattle.std.proofs.Common.{length, ◌-◌, ◌*◌, ◌≡◌, ◌%◌, ◌≤◌, take, sum_by, count_ones}
 use Rattle.sm_bits.proofs.words.count.Given as goal
 
 abbrev pub invariant-loop-at : goal.invariant-loop-at

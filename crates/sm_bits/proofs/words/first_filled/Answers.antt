@@ -1,6 +1,5 @@
-use Rattle.std.proofs.Common.{◌≡◌, ℕ, ◌+◌, ◌≤◌, length, get_or, inl, inr, arith}
+use Rattle.std.proofs.Common.{◌+◌, ◌≤◌, length, inl, inr, arith}
 use Rattle.std.proofs.lemmas.Bool.{cases_lt}
-use Rattle.std.specs.Simd.Lanes.{chunk}
 use Rattle.sm_bits.proofs.RowSearch.{first_in_row, passed_row}
 use Rattle.sm_bits.proofs.words.first_filled.Goals as goal
 

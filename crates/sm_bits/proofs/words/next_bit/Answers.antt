@@ -1,4 +1,4 @@
-use Rattle.std.proofs.Common.{◌≡◌, ℕ, ◌+◌, ◌/◌, ◌≤◌, ◌<◌, length, arith}
+use Rattle.std.proofs.Common.{◌/◌, arith}
 use Rattle.sm_bits.proofs.BitPlaces.{clear_past, first_here, first_later, none_later}
 use Rattle.sm_bits.proofs.words.next_bit.Goals as goal
 

@@ -1,4 +1,4 @@
-use Rattle.std.proofs.Common.{◌≡◌, ◌<◌, ◌/◌, ℕ, true, false, length, set, get_or, ap, ◌∙◌, arith}
+use Rattle.std.proofs.Common.{◌≡◌, ◌/◌, false, set, get_or, ap, ◌∙◌, arith}
 use Rattle.std.proofs.lemmas.List.{get_or_read}
 use Rattle.sm_bits.proofs.Marks.{within, word_of, changed_words, changed_marks, clear_here, clear_others}
 use Rattle.sm_bits.proofs.map.BitMap.clear.Goals as goal

@@ -1,4 +1,4 @@
-use Rattle.std.proofs.Common.{◌≡◌, ℕ, List, replicate, sym, ap, ◌∙◌, subst}
+use Rattle.std.proofs.Common.{◌≡◌, replicate, sym, ap, ◌∙◌, subst}
 use Rattle.sm_bits.specs.Words.{AreWordsOf, marks, words_for}
 use Rattle.sm_bits.proofs.Marks.{empty_words, empty_marks}
 use Rattle.sm_bits.proofs.map.BitMap.new.Goals as goal

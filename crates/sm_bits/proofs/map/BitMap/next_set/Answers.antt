@@ -1,7 +1,7 @@
-use Rattle.std.proofs.Common.{◌≡◌, ◌<◌, ◌≤◌, ◌^◌, ℕ, Bool, false, List, length, inl, inr, Fits, w32, sym, ap, ◌∙◌, subst, arith}
+use Rattle.std.proofs.Common.{◌≡◌, ◌<◌, ℕ, Bool, false, List, inl, inr, sym, ap, ◌∙◌, subst, arith}
 use Rattle.std.proofs.lemmas.Bool.{cases_lt, false≢true}
 use Rattle.sm_bits.specs.Places.{has, IsLeastFrom}
-use Rattle.sm_bits.specs.Words.{marks, AreWordsOf, IsLeastBit, bit}
+use Rattle.sm_bits.specs.Words.{AreWordsOf, IsLeastBit, bit}
 use Rattle.sm_bits.proofs.Marks.{has_is_bit, few_words}
 use Rattle.sm_bits.proofs.map.BitMap.next_set.Goals as goal
 

@@ -1,4 +1,4 @@
-use Rattle.std.proofs.Common.{◌≡◌, ◌<◌, ◌/◌, ℕ, true, false, length, set, get_or, ap, ◌∙◌, arith}
+use Rattle.std.proofs.Common.{◌≡◌, ◌/◌, true, set, get_or, ap, ◌∙◌, arith}
 use Rattle.std.proofs.lemmas.List.{get_or_read}
 use Rattle.sm_bits.proofs.Marks.{within, word_of, changed_words, changed_marks, set_here, set_others}
 use Rattle.sm_bits.proofs.map.BitMap.set.Goals as goal

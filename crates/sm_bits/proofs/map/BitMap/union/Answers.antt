@@ -1,9 +1,9 @@
-use Rattle.std.proofs.Common.{◌≡◌, ◌<◌, ◌/◌, ◌%◌, ℕ, Bool, ◌&&◌, ◌||◌, not, length, get_or, refl, sym, ap, ap₂, ◌∙◌, subst}
+use Rattle.std.proofs.Common.{◌≡◌, ◌<◌, ◌/◌, ℕ, Bool, ◌||◌, length, refl, sym, ap, ap₂, ◌∙◌, subst}
 use Rattle.std.proofs.lemmas.List.{with_items_is}
 use Rattle.std.specs.Simd.Lanes.{zip2}
 use Rattle.std.specs.Vec.{with_items}
 use Rattle.sm_bits.specs.Words.{bit, marks, AreWordsOf}
-use Rattle.sm_bits.proofs.Marks.{length-marks, as_many, places_agree, words_agree, joined_words, joined_marks}
+use Rattle.sm_bits.proofs.Marks.{as_many, places_agree, words_agree, joined_words, joined_marks}
 use Rattle.sm_bits.proofs.map.BitMap.union.Goals as goal
 
 pub unite-requires-clause-same : goal.unite-requires-clause-same
