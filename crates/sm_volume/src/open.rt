@@ -52,11 +52,12 @@ impl<D: Disk> Volume<D> {
     ///
     /// # Errors
     ///
-    /// The disk comes back with the fault, and neither what it reads nor what a restart may leave is changed. [`VolumeFault::DiskSmall`] where the disk is shorter than
-    /// the smallest volume needs, or shorter than the root's physical size needs;
-    /// [`VolumeFault::BadRoot`] where the selected record is no root, with its slot and its first byte that fits
-    /// none; [`VolumeFault::OtherNumber`] where the root is that of another volume. Where the disk tells its
-    /// content these three come exactly there, but for a failure of the disk and want of memory.
+    /// The disk comes back with the fault, and neither what it reads nor what a restart may leave is
+    /// changed. [`VolumeFault::DiskSmall`] where the disk is shorter than the smallest volume needs, or
+    /// shorter than the root's physical size needs; [`VolumeFault::BadRoot`] where the selected record is
+    /// no root, with its slot and its first byte that fits none; [`VolumeFault::OtherNumber`] where the
+    /// root is that of another volume. Where the disk tells its content these three come exactly there,
+    /// but for a failure of the disk and want of memory.
     pub fn open(alloc: Global, disk: D, number: VolNo) -> Result<Volume<D>, (D, VolumeFault)>
         ensures ok { IfOk result (λ v. (v ≡ record v { number = number; after = None; up = true }) × (v.volume ≡ opened v.volume)
             × (IsTrue (D.state disk).told → Selects v.selected number v.volume (D.state disk).seen)) }

@@ -13,7 +13,8 @@ pub enum VolumeFault {
     NoSnapshot,
     /// A snapshot of the volume has the name.
     NameTaken,
-    /// The volume would have more than [`MOST_SNAPSHOTS`](sm_base::limits::MOST_SNAPSHOTS) snapshots, or its clients have taken all that have a number.
+    /// The volume would have more than [`MOST_SNAPSHOTS`](sm_base::limits::MOST_SNAPSHOTS) snapshots, or its
+    /// clients have taken all that have a number.
     SnapFull,
     /// The disk is shorter than the volume needs.
     DiskSmall {

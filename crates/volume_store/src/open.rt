@@ -78,11 +78,12 @@ impl<D: Disk> Store<D> {
     ///
     /// # Errors
     ///
-    /// The disk comes back with the fault, and neither what it reads nor what a restart may leave is changed. [`VolumeFault::DiskSmall`] where the disk is shorter than
-    /// the smallest volume needs, or shorter than the root's physical size needs;
-    /// [`VolumeFault::BadRoot`] where the selected record is no root, with its first byte that fits
-    /// none; [`VolumeFault::OtherNumber`] where the root is that of another volume. Where the disk tells its
-    /// content these three come exactly there, but for a failure of the disk and want of memory.
+    /// The disk comes back with the fault, and neither what it reads nor what a restart may leave is
+    /// changed. [`VolumeFault::DiskSmall`] where the disk is shorter than the smallest volume needs, or
+    /// shorter than the root's physical size needs; [`VolumeFault::BadRoot`] where the selected record is
+    /// no root, with its slot and its first byte that fits none; [`VolumeFault::OtherNumber`] where the
+    /// root is that of another volume. Where the disk tells its content these three come exactly there,
+    /// but for a failure of the disk and want of memory.
     pub fn open(alloc: Global, disk: D, number: VolNo) -> Result<Store<D>, (D, VolumeFault)>
         ensures ok { IfOk result (λ v. (r : Root) × (r.number ≡ number)
             × (v ≡ record { disk = v.disk; number = v.number; maps = record { root = r; active = r.stable }; after = None; up = true })
