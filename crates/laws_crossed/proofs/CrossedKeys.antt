@@ -2,7 +2,7 @@
 use Rattle.std.proofs.Common.{◌≡◌, ◌⊎◌, ℕ, Bool, true, false, cond, List, [], ◌∷◌, ◌++◌, map, Option, Some, None, refl, sym, ◌∙◌, ap, subst, inl, inr}
 use Rattle.std.specs.List.{filter_map, cons_option}
 use Rattle.std.proofs.lemmas.Option.{same_Some}
-use Rattle.sm_defs.specs.Words.{Among, Found, found, next_place}
+use Rattle.sm_defs.specs.Words.{Among}
 use Rattle.sm_defs.specs.Relationship.{Relationship}
 use Rattle.sm_defs.proofs.Keys.{differ_push}
 use Rattle.laws_crossed.proofs.CrossedParts.{Differ, dest_key}

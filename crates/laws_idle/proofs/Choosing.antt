@@ -1,7 +1,7 @@
 -- What this program chooses is due.
 use Rattle.std.proofs.Common.{◌≡◌, ◌<◌, ◌+◌, ℕ, suc, Bool, true, false, cond, List, [], ◌∷◌, length, Option, Some, None, refl, sym, ap, subst, inl, inr, arith}
-use Rattle.std.specs.Prelude.{slice_get, slice_index_or, ◌%◌}
-use Rattle.std.specs.List.{find, filter}
+use Rattle.std.specs.Prelude.{slice_index_or, ◌%◌}
+use Rattle.std.specs.List.{find}
 use Rattle.std.proofs.lemmas.Option.{same_Some}
 use Rattle.sm_base.specs.declared.refusal.Reason.{Reason}
 use Rattle.sm_base.specs.declared.limits.TheConstants.{WINDOW}
@@ -15,7 +15,7 @@ use Rattle.sm_defs.proofs.Searches.{find_is}
 use Rattle.sm_model.specs.Running.{Running, running_in, IsRunning}
 use Rattle.sm_model.specs.Steps.{Effect, cost, may_ship}
 use Rattle.sm_model.specs.Due.{StepKind, revert, finish, settle, prepare, prune, publish, checkpoint, ship, kind_due, IsEffect, IsStep, by_transfer, by_tidy, tidy_due}
-use Rattle.sm_model.specs.Choice.{with_running, running_from, running, taken, shippable, effect_for, chosen_for, chosen_of, tidied, chosen}
+use Rattle.sm_model.specs.Choice.{running_from, running, taken, shippable, effect_for, chosen_for, chosen_of, tidied, chosen}
 
 -- the relationship stands at its place, counted from k on, and its transfer runs
 pub record IsIn (k : ℕ) (rs : List Relationship) (f : Found Relationship) : Type 0 where

@@ -1,5 +1,5 @@
 -- What the clauses of a volume's calls say of the plain assignments.
-use Rattle.std.proofs.Common.{◌≡◌, inl, inr, ℕ, suc, ◌<◌, ◌≤◌, length, get_or, Bool, true, false, cond, List, [], ◌∷◌, ◌++◌, map, take, drop, replicate, refl, sym, ap, ◌∙◌, subst, Option, Some, None, Result, Ok, Err, OnOk, OnErr, IsErr, IsTrue}
+use Rattle.std.proofs.Common.{◌≡◌, inl, inr, ℕ, suc, ◌<◌, ◌≤◌, length, get_or, Bool, true, false, cond, List, [], ◌∷◌, ◌++◌, map, take, drop, refl, sym, ap, ◌∙◌, subst, Option, Some, None, Result, Ok, Err, OnOk, OnErr, IsErr, IsTrue}
 use Rattle.sm_base.specs.declared.numbers.Ident.{Ident}
 use Rattle.sm_base.specs.declared.numbers.Side.{Side}
 use Rattle.sm_base.specs.declared.numbers.Side.TheVariants.{Before, After}

@@ -1,8 +1,5 @@
 -- What a search finds, and what stands at a place.
-use Rattle.std.proofs.Common.{◌≡◌, ℕ, zero, suc, ◌+◌, ◌<◌, ◌≤◌, Bool, true, false, not, cond, nat_lt, List, [], ◌∷◌, length, get_or, position, refl, sym, ap, arith, Option, Some, None}
-use Rattle.std.proofs.lemmas.Bool.Decides.{nat_tests}
-use Rattle.std.specs.List.{prefix_len}
-use Rattle.sm_defs.specs.Words.{Found, found, next_place}
+use Rattle.std.proofs.Common.{◌≡◌, ℕ, zero, suc, ◌+◌, ◌<◌, ◌≤◌, Bool, List, [], ◌∷◌, length, get_or, position, refl, sym, arith, Option, Some, None}
 use Rattle.sm_defs.proofs.Searches.{found_by_position, none_by_position}
 use Rattle.oracle_world.specs.Finding.{IsFound}
 

@@ -1,8 +1,8 @@
 -- Identities that are new one after the other differ, and those that differ are new.
-use Rattle.std.proofs.Common.{◌≡◌, ℕ, ◌==◌, ◌⊎◌, Bool, true, false, List, [], ◌∷◌, ◌++◌, refl, sym, ap, subst, ◌∙◌, inl, inr, arith}
+use Rattle.std.proofs.Common.{◌≡◌, ℕ, ◌==◌, ◌⊎◌, Bool, true, false, List, [], ◌∷◌, ◌++◌, refl, sym, subst, ◌∙◌, inl, inr, arith}
 use Rattle.std.specs.Prelude.{◌||◌, not}
 use Rattle.std.specs.List.{list_any, AllByRecursion}
-use Rattle.std.proofs.lemmas.Bool.{and_from, and_parts, eqb-true, not-true, or_parts}
+use Rattle.std.proofs.lemmas.Bool.{and_from, not-true, or_parts}
 use Rattle.sm_base.specs.declared.numbers.Ident.{Ident}
 use Rattle.sm_defs.specs.Words.{Among, KeysDiffer, same_ident}
 use Rattle.sm_defs.proofs.Idents.{same_is}

@@ -5,7 +5,6 @@ use Rattle.std.specs.List.{flat_map, list_all}
 use Rattle.std.proofs.lemmas.List.Concat.{flat_map-cons}
 use Rattle.std.proofs.lemmas.Bool.{leb-true, and_parts}
 use Rattle.sm_base.specs.Name.{is_snapshot_name, word_byte}
-use Rattle.sm_base.specs.declared.numbers.Ident.{Ident}
 use Rattle.sm_defs.specs.Words.{Among}
 use Rattle.sm_fields.specs.Format.{bits8, bits32, bits64}
 use Rattle.sm_fields.specs.Grammar.{digits, with_length, identity_digits}

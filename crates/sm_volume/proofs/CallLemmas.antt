@@ -23,7 +23,7 @@ use Rattle.volume_store.specs.declared.faults.VolumeFault.TheVariants.{DiskFault
 use Rattle.sm_root.specs.declared.head.Head.{Head}
 use Rattle.volume_store.specs.declared.io.View.{View}
 use Rattle.volume_store.specs.declared.io.View.TheVariants.{Active, Of}
-use Rattle.volume_store.specs.Held.{Held, IsHeld, block_at, block_start, bytes_at}
+use Rattle.volume_store.specs.Held.{Held, block_at, block_start, bytes_at}
 use Rattle.volume_store.specs.Held as store_held
 use Rattle.volume_store.specs.Maps.{Maps, all_maps, uses}
 use Rattle.volume_store.specs.Maps as store_maps

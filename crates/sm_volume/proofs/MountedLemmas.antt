@@ -9,7 +9,7 @@ use Rattle.sm_disk.proofs.Moments.{weaker}
 use Rattle.sm_root.specs.declared.root.Root.{Root}
 use Rattle.sm_root.specs.Condition.{map_of, maps_of}
 use Rattle.volume_store.specs.declared.faults.VolumeFault.{VolumeFault}
-use Rattle.volume_store.specs.Held.{Held, block_at, bytes_at}
+use Rattle.volume_store.specs.Held.{Held}
 use Rattle.volume_store.specs.Held as store
 use Rattle.volume_store.specs.Commits as store_commits
 use Rattle.volume_store.specs.Maps.{Maps, uses}

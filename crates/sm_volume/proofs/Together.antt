@@ -6,7 +6,7 @@ use Rattle.sm_disk.specs.Image.{Image}
 use Rattle.sm_disk.specs.Disk.{DiskState, GoesOn}
 use Rattle.sm_disk.proofs.Moments.{weaker}
 use Rattle.sm_volume.specs.Shown.{Shows, Selects, HoldsAll, KeepsBlocks, NoBlock, IsLikeIn}
-use Rattle.sm_volume.specs.Worlds.{ShowsPart, SelectsPart, AreApart, HaveLanded, PartGoesOn, PartStaysSelected, PartIsCommitted, PartIsSelected}
+use Rattle.sm_volume.specs.Worlds.{AreApart, HaveLanded, PartGoesOn, PartStaysSelected, PartIsCommitted, PartIsSelected}
 
 -- what holds of each image of two runs holds of both together
 goes_with : (a b : DiskState) (P Q : Image → Type 0) → GoesOn a b P → GoesOn a b Q → GoesOn a b (λ x. P x × Q x)

@@ -1,5 +1,5 @@
 -- What the record of a volume tells of its stable image.
-use Rattle.std.proofs.Common.{◌≡◌, ◌||◌, ◌==◌, ℕ, Bool, true, false, List, [], ◌∷◌, ◌++◌, map, refl, ap, ◌∙◌}
+use Rattle.std.proofs.Common.{◌≡◌, ◌||◌, ◌==◌, ℕ, Bool, true, false, List, [], ◌∷◌, ◌++◌, refl, ap, ◌∙◌}
 use Rattle.sm_defs.specs.Image.{stands, tags}
 use Rattle.sm_defs.specs.Volume.{Volume, tags_of}
 

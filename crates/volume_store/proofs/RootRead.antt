@@ -1,5 +1,5 @@
 -- What reading a disk's root answers, and opening with it.
-use Rattle.std.proofs.Common.{◌≡◌, ◌≢◌, inl, inr, ⊎_elim, ℕ, ◌+◌, ◌<◌, ◌≤◌, List, length, refl, sym, ap, ◌∙◌, subst, arith, Result, Ok, Err, IsTrue, Vec, Global}
+use Rattle.std.proofs.Common.{◌≡◌, ◌≢◌, inl, inr, ⊎_elim, ℕ, ◌<◌, ◌≤◌, List, length, refl, sym, ap, ◌∙◌, subst, arith, Result, Ok, Err, IsTrue, Vec, Global}
 use Rattle.std.proofs.lemmas.Bool.{cases_order}
 use Rattle.sm_base.specs.declared.numbers.VolNo.{VolNo}
 use Rattle.sm_disk.specs.Image.{Image, part}
@@ -17,7 +17,7 @@ use Rattle.volume_store.specs.declared.faults.VolumeFault.{VolumeFault}
 use Rattle.volume_store.specs.declared.faults.VolumeFault.TheVariants as faults
 use Rattle.volume_store.specs.declared.faults.VolumeFault.TheVariants.{DiskFault, BadRoot, DiskSmall, OtherNumber, NoMemory as OutOfMemory}
 use Rattle.volume_store.specs.Held.{need}
-use Rattle.volume_store.specs.Opened.{IsRootOn, IsNoRootOn, IsBadRootOn, DiffersFirst, Fails, IsOrFails, Answers, ReadsRecord, AnswersRoot, ReadsRoot, IsOpenFault, IsStateFault, least_need}
+use Rattle.volume_store.specs.Opened.{IsNoRootOn, DiffersFirst, Fails, IsOrFails, Answers, ReadsRecord, AnswersRoot, ReadsRoot, IsOpenFault, IsStateFault, least_need}
 
 -- ---- the record
 

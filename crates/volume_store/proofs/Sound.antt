@@ -3,7 +3,7 @@ use Rattle.std.proofs.Common.{◌≡◌, ◌⊎◌, inl, inr, ⊎_elim, ℕ, zer
 use Rattle.std.proofs.lemmas.Bool.{cases_Bool, cases_lt, cases_eq}
 use Rattle.std.proofs.lemmas.List.{length-append, length-take, get_or_past}
 use Rattle.std.proofs.lemmas.List.Elements.{filter-append}
-use Rattle.std.specs.List.{filter, AllByRecursion}
+use Rattle.std.specs.List.{filter}
 use Rattle.sm_base.specs.declared.numbers.Ident.{Ident}
 use Rattle.sm_base.specs.declared.numbers.Kind.{Kind}
 use Rattle.sm_base.specs.declared.limits.TheConstants.{MOST_SNAPSHOTS, LAST_NUMBER}
@@ -24,10 +24,6 @@ among_filter p (y ∷ ys) x is = elim (cases_Bool (p y)) [
   | inl stays ↦ ⊎_elim (λ here. inl here) (λ there. inr (among_filter p ys x there)) (let h : Among (y ∷ filter p ys) x = subst (λ b. Among (cond b (y ∷ filter p ys) (filter p ys)) x) stays is in h)
   | inr goes ↦ inr (among_filter p ys x (subst (λ b. Among (cond b (y ∷ filter p ys) (filter p ys)) x) goes is))
 ]
-
-]
-
-)
 
 -- fewer maps
 pub maps_among : (logical physical : ℕ) (old new : List (List ℕ)) → AreMapsOf logical physical old → ((x : List ℕ) → Among new x → Among old x) → AreMapsOf logical physical new

@@ -1,6 +1,6 @@
 -- No two relationships have transfers of one number.
 use Rattle.std.proofs.Common.{◌≡◌, ◌⊎◌, ℕ, List, [], ◌∷◌, Option, Some, None, sym, ap, ◌∙◌, inl, inr}
-use Rattle.std.specs.List.{filter_map, AllByRecursion}
+use Rattle.std.specs.List.{filter_map}
 use Rattle.std.specs.Option.{option_map}
 use Rattle.sm_defs.specs.Words.{Among, KeysDiffer}
 use Rattle.sm_defs.specs.Relationship.{Relationship, Transfer}

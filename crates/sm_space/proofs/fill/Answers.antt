@@ -1,4 +1,4 @@
-use Rattle.std.proofs.Common.{◌≡◌, length, arith}
+use Rattle.std.proofs.Common.{◌≡◌, arith}
 use Rattle.sm_space.proofs.FreeLemmas.{same_all, one_more}
 use Rattle.sm_space.proofs.fill.Goals as goal
 

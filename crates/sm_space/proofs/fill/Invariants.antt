@@ -1,4 +1,4 @@
-use Rattle.std.proofs.Common.{◌≡◌, ℕ, ◌<◌, Bool, false, length, replicate}
+use Rattle.std.proofs.Common.{◌≡◌, ℕ, ◌<◌, false, length, replicate}
 use Rattle.sm_bits.specs.Places.{has}
 use Rattle.sm_space.specs.Free.{free_of}
 use Rattle.sm_space.proofs.fill.Given as goal

@@ -1,4 +1,4 @@
-use Rattle.std.proofs.Common.{◌≡◌, List, ℕ, true, sym, ◌∙◌, ap}
+use Rattle.std.proofs.Common.{◌≡◌, List, ℕ, sym, ◌∙◌, ap}
 use Rattle.sm_defs.specs.Image.{stands}
 use Rattle.tests_volume.proofs.StableStands.{stable_stands}
 use Rattle.tests_volume.proofs.fetching.is_stable.Goals as goal

@@ -1,10 +1,8 @@
-use Rattle.std.proofs.Common.{◌≡◌, ◌≤◌, sym, subst, ap, inl, inr, refl, IsTrue, Ok, Err, Result, arith}
+use Rattle.std.proofs.Common.{◌≤◌, sym, subst, IsTrue, Ok, Err, arith}
 use Rattle.std.proofs.lemmas.Result.{err_from_is_err_and}
 use Rattle.sm_disk.specs.Image.{Image}
-use Rattle.sm_root.specs.declared.root.Root.{Root}
-use Rattle.volume_store.specs.declared.faults.VolumeFault.{VolumeFault}
 use Rattle.volume_store.specs.Opened.{ReadsRoot, least_need}
-use Rattle.volume_store.proofs.RootRead.{too_short, not_read, no_fault, not_its_root}
+use Rattle.volume_store.proofs.RootRead.{not_read, no_fault, not_its_root}
 use Rattle.volume_store.proofs.finding.look.Goals as goal
 
 pub returns-in_err-root-clause-exact : goal.returns-in_err-root-clause-exact

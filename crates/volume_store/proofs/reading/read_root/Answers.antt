@@ -1,4 +1,4 @@
-use Rattle.std.proofs.Common.{◌≡◌, ◌∙◌, sym, ap, refl, inr, Ok, Err}
+use Rattle.std.proofs.Common.{◌∙◌, sym, ap, refl, Ok, Err}
 use Rattle.std.proofs.lemmas.Result.{err_from_is_err_and}
 use Rattle.sm_root.specs.declared.fault.RootFault.TheVariants.{Bad}
 use Rattle.sm_slots.specs.Stored.{Record, slot_of}

@@ -1,4 +1,4 @@
-use Rattle.std.proofs.Common.{◌≡◌, ◌≤◌, ◌+◌, ◌*◌, ℕ, List, IsTrue, ◌∙◌, ap, subst, arith}
+use Rattle.std.proofs.Common.{◌≡◌, ◌≤◌, ℕ, List, IsTrue, ◌∙◌, ap, subst, arith}
 use Rattle.sm_root.specs.Condition.{IsRoot}
 use Rattle.sm_root.specs.Spelling.{spelling}
 use Rattle.sm_slots.specs.Slots.{Selects}
