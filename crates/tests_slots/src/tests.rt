@@ -51,16 +51,23 @@ fn reads_what_was_committed(rt: HostRuntime) -> Result<(), Fail> {
     Ok(())
 }
 
+// A record that is one byte longer than a slot.
+fn too_long(alloc: Global) -> Result<Vec<u8>, NoMemory>
+    ensures { IfOk result (λ made. IsFramed made.items) }
+{
+    let body = vec![in alloc; 0u8; SLOT_LEN - 11]?;
+    framed(alloc, MAGIC, &body)
+}
+
 #[test]
 fn refuses_a_record_longer_than_a_slot(rt: HostRuntime) -> Result<(), Fail> {
     let alloc = rt.alloc();
     let mut disk = MemDisk::new(alloc, SLOTS_END)?;
     let mut slots = restart_and_open(&mut disk)?;
-    let body = vec![in alloc; 0u8; SLOT_LEN - 11]?;
-    let bytes = framed(alloc, MAGIC, &body)?;
-    assert_eq!(rt; bytes.len(), 4_456_449);
+    let bytes = too_long(alloc)?;
     assert_eq!(rt; slots.commit(&mut disk, &bytes), Err(SlotFault::TooLarge));
     assert!(rt; Slots::format(&mut disk, &bytes).is_err(), "formatted");
+    assert_eq!(rt; bytes.len(), 4_456_449);
     Ok(())
 }
 
