@@ -2,9 +2,9 @@
 # Times the calls of a volume of 4,096 blocks over a disk in memory, at 0, 1, 24 and 255 snapshots: a client's
 # write, a consistency point, a snapshot with its removal, a removal (where the snapshots differ from the
 # stable image at few blocks, and where they differ from it everywhere), and what encoding the same root
-# takes. It tells the user time of one call without what making the volume takes, how often that is the
-# encoding's, and the most memory. At most 2.00 is wanted. It takes about five minutes; the gate
-# does not run it.
+# takes; an opening, and what decoding its root takes. It tells the user time of one call without what making
+# the volume takes, how often that is the encoding's, or the decoding's, and the most memory. At most 2.00 is
+# wanted, and of an opening 1.50. It takes about six minutes; the gate does not run it.
 top=$(CDPATH='' cd -- "$(dirname -- "$0")/.." && pwd) || exit 1
 program=$top/crates/bench_volume/out/bench_volume
 
@@ -45,8 +45,8 @@ def peak(*words):
     return int(subprocess.run([sys.executable, "-c", code, program, *words], stdout=subprocess.PIPE, check=True).stdout)
 
 
-def tell(what, time, encoding):
-    print(f"    {what:<26} {time:10.1f} us   {time / encoding:5.2f} of the encoding")
+def tell(what, time, base, name="encoding"):
+    print(f"    {what:<26} {time:10.1f} us   {time / base:5.2f} of the {name}")
 
 
 for snapshots, calls in (0, 3000), (1, 3000), (24, 400), (255, 60):
@@ -62,6 +62,8 @@ for snapshots, calls in (0, 3000), (1, 3000), (24, 400), (255, 60):
         shorter = each("encode", snapshots - 1, 5 * calls)
         tell("snapshot and its removal", each("snapshot", snapshots - 1, calls), encoding + shorter)
     tell("of it the disk alone", each("disk", snapshots, calls), encoding)
+    # Making so many snapshots takes long, so that few openings would be lost in its noise.
+    tell("opening", each("open", snapshots, 3 * calls), each("decode", snapshots, 3 * calls), "decoding")
 
 # What the disk keeps of each record that was written is no memory of the volume's.
 for snapshots in 1, 255:

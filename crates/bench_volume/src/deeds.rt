@@ -1,7 +1,8 @@
 // What is done so and so often.
-use crate::record::{encode_often, write_often};
+use crate::record::{decode_often, encode_often, write_often};
 use crate::volume::{
-    Size, commit_often, empty, prepare, remove_often, rewrite, snapshot_often, write_blocks,
+    Size, commit_often, empty, open_often, prepare, remove_often, rewrite, snapshot_often,
+    write_blocks,
 };
 use sm_memdisk::MemDisk;
 use std::alloc::Global;
@@ -22,6 +23,10 @@ pub enum Deed {
     Rewritten,
     /// The encoding of the root.
     Encode,
+    /// The decoding of the root.
+    Decode,
+    /// An opening of the volume on its disk.
+    Open,
     /// What a commit has the disk do.
     Disk,
 }
@@ -44,6 +49,8 @@ pub fn deed_of(word: &str) -> Option<Deed> {
         "remove" => Some(Deed::Remove),
         "rewritten" => Some(Deed::Rewritten),
         "encode" => Some(Deed::Encode),
+        "decode" => Some(Deed::Decode),
+        "open" => Some(Deed::Open),
         "disk" => Some(Deed::Disk),
         _ => None,
     }
@@ -56,7 +63,11 @@ pub fn perform(alloc: Global, plan: &Plan) -> Result<usize, VolumeFault> {
         return write_often(alloc, plan.size, plan.snapshots, plan.count);
     }
     let mut volume = empty(alloc, plan.size)?;
-    perform_on(alloc, &mut volume, plan)
+    let left = perform_on(alloc, &mut volume, plan)?;
+    if plan.deed == Deed::Open {
+        return open_often(alloc, volume, plan.count);
+    }
+    Ok(left)
 }
 
 fn perform_on(
@@ -74,7 +85,9 @@ fn perform_on(
             rewrite(alloc, volume, plan.size)?;
             remove_often(alloc, volume, plan.count)?;
         }
+        Deed::Decode => return decode_often(alloc, volume, plan.count),
         Deed::Encode | Deed::Disk => return encode_often(alloc, volume, plan.count),
+        Deed::Open => {}
     }
     Ok(volume.used() as usize)
 }

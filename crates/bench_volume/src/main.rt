@@ -56,7 +56,7 @@ fn main(rt: HostRuntime) -> io::Result<()> {
         let text = match plan_of(&words) {
             Some(plan) => report(rt.alloc(), &plan)?,
             None => format!(in rt.alloc();
-                "words: write|commit|snapshot|remove|rewritten|encode|disk SNAPSHOTS CALLS"
+                "words: write|commit|snapshot|remove|rewritten|encode|decode|open|disk SNAPSHOTS CALLS"
             )?,
         };
         return println!(rt; "{text}");
@@ -68,6 +68,8 @@ fn main(rt: HostRuntime) -> io::Result<()> {
         Deed::Remove,
         Deed::Rewritten,
         Deed::Encode,
+        Deed::Decode,
+        Deed::Open,
         Deed::Disk,
     ] {
         let text = report(rt.alloc(), &small(deed))?;

@@ -1,9 +1,11 @@
 // The root's record, without a volume.
+ghost use Rattle.std.specs.Prelude.{◌-◌, ◌^◌, ◌<◌, length};
+
 use crate::volume::Size;
 use sm_base::{Failed, NoMemory};
 use sm_disk::Disk;
 use sm_memdisk::MemDisk;
-use sm_root::{RECORD_SNAPSHOTS, encode};
+use sm_root::{RECORD_SNAPSHOTS, RootFault, decode, encode};
 use sm_slots::{SLOT_LEN, SLOTS_END, slot_start_of};
 use std::alloc::Global;
 use volume_store::{Store, VolumeFault};
@@ -21,6 +23,32 @@ pub fn encode_often(
         len = encode(alloc, root)?.len();
     }
     Ok(len)
+}
+
+// The blocks of the root that the bytes spell.
+fn decoded(alloc: Global, bytes: &[u8]) -> Result<usize, VolumeFault>
+    requires { length bytes.now < 2 ^ 32 - 1 }
+{
+    match decode(alloc, bytes) {
+        Ok(root) => Ok(root.logical as usize),
+        Err(RootFault::Bad { at }) => Err(VolumeFault::BadRoot { slot: 0, at }),
+        Err(RootFault::NoMemory) => Err(VolumeFault::NoMemory),
+    }
+}
+
+/// Decodes the record of the volume's root so often. The answer is how many blocks it has.
+pub fn decode_often(
+    alloc: Global,
+    volume: &Store<MemDisk>,
+    count: u32,
+) -> Result<usize, VolumeFault> {
+    volume.told();
+    let bytes = encode(alloc, volume.root())?;
+    let mut blocks = 0;
+    for _ in 0..count {
+        blocks = decoded(alloc, &bytes)?;
+    }
+    Ok(blocks)
 }
 
 // Writes a record and its selector, as a commit does.

@@ -173,3 +173,23 @@ pub fn remove_often(
     }
     Ok(())
 }
+
+/// Opens the volume on its disk, time after time. The answer is how many blocks are used.
+pub fn open_often(
+    alloc: Global,
+    volume: Store<MemDisk>,
+    count: u32,
+) -> Result<usize, VolumeFault> {
+    let mut volume = volume;
+    for _ in 0..count {
+        volume = open_again(alloc, volume)?;
+    }
+    Ok(volume.used() as usize)
+}
+
+fn open_again(alloc: Global, volume: Store<MemDisk>) -> Result<Store<MemDisk>, VolumeFault> {
+    match Store::open(alloc, volume.into_disk(), VolNo(1)) {
+        Ok(volume) => Ok(volume),
+        Err((_, fault)) => Err(fault),
+    }
+}
