@@ -175,11 +175,7 @@ pub fn remove_often(
 }
 
 /// Opens the volume on its disk, time after time. The answer is how many blocks are used.
-pub fn open_often(
-    alloc: Global,
-    volume: Store<MemDisk>,
-    count: u32,
-) -> Result<usize, VolumeFault> {
+pub fn open_often(alloc: Global, volume: Store<MemDisk>, count: u32) -> Result<usize, VolumeFault> {
     let mut volume = volume;
     for _ in 0..count {
         volume = open_again(alloc, volume)?;
