@@ -7,19 +7,19 @@ use Rattle.sm_defs.specs.Words.{Among}
 use Rattle.sm_defs.specs.Image.{Block, Image, tags, stands}
 use Rattle.sm_defs.specs.Volume.{Volume, images_of, tags_of, numbers, free_tags, free, used}
 use Rattle.sm_model.specs.TagsFit.{TagsFitIn}
-use Rattle.sm_defs.specs.Operations.{first_of}
+use Rattle.sm_defs.specs.Missing.{first_number}
 use Rattle.sm_defs.proofs.Members.{among_stands, any_left, any_right}
 use Rattle.sm_defs.proofs.Numbers.{to_numbers}
 use Rattle.laws_transfer.proofs.Landed.{free_ascend}
 use Rattle.laws_form.proofs.Pigeonhole.{at_least, at_most, distinct_append}
 
-none_go : (p : ℕ → Bool) (x t : ℕ) (xs : List ℕ) (b : Bool) → p x ≡ b → x ≢ 0 → first_of (cond b (x ∷ filter p xs) (filter p xs)) ≡ 0 →
-    (first_of (filter p xs) ≡ 0 → Among xs t → p t ≡ false) → (t ≡ x) ⊎ Among xs t → p t ≡ false
+none_go : (p : ℕ → Bool) (x t : ℕ) (xs : List ℕ) (b : Bool) → p x ≡ b → x ≢ 0 → first_number (cond b (x ∷ filter p xs) (filter p xs)) ≡ 0 →
+    (first_number (filter p xs) ≡ 0 → Among xs t → p t ≡ false) → (t ≡ x) ⊎ Among xs t → p t ≡ false
 none_go p x t xs true e n z h m = absurd (n z)
 none_go p x t xs false e n z h (inl i) = rw i e
 none_go p x t xs false e n z h (inr m) = h z m
 
-none_passes : (p : ℕ → Bool) (n from t : ℕ) → first_of (filter p (numbers (suc from) n)) ≡ 0 → Among (numbers (suc from) n) t → p t ≡ false
+none_passes : (p : ℕ → Bool) (n from t : ℕ) → first_number (filter p (numbers (suc from) n)) ≡ 0 → Among (numbers (suc from) n) t → p t ≡ false
 none_passes p zero from t z m = absurd m
 none_passes p (suc n) from t z m = none_go p (suc from) t (numbers (suc (suc from)) n) (p (suc from)) refl (λ e. omega arith) z (none_passes p n (suc from) t) m
 
@@ -62,7 +62,7 @@ both_bounds : (a b : ℕ) → a ≤ b → b ≤ a → a ≡ b
 both_bounds a b h k = omega arith
 
 -- where no number is free, all blocks are used
-pub none_free : (v : Volume) → TagsFitIn v → first_of (free_tags v) ≡ 0 → used v ≡ v.physical
+pub none_free : (v : Volume) → TagsFitIn v → first_number (free_tags v) ≡ 0 → used v ≡ v.physical
 none_free v f z = both_bounds (used v) v.physical (at_most v.physical (tags_of v) (stands_in_range v f)) (at_least v.physical (tags_of v) all)
   where
     all : (t : ℕ) → 0 < t → t ≤ v.physical → stands t (tags_of v) ≡ true

@@ -11,7 +11,8 @@ use Rattle.sm_defs.specs.Volume.{Volume, Snapshot, images_of, free_tags, new_vol
 use Rattle.sm_model.specs.InRange.{IsCreation}
 use Rattle.sm_model.specs.Standing.{Stored}
 use Rattle.sm_model.specs.Formed.{FormedSnapshot, FormedVolume}
-use Rattle.sm_defs.specs.Operations.{first_of, with_snapshot, counted, writable}
+use Rattle.sm_defs.specs.Operations.{with_snapshot, counted, writable}
+use Rattle.sm_defs.specs.Missing.{first_number}
 use Rattle.sm_model.specs.OfVolumes.{written}
 use Rattle.laws_cases.proofs.Steps.Costs.{among_same}
 use Rattle.laws_copies.proofs.Tags.{ImagesFrom, stored_from, pointed_from, reopened_from, thinned_from, snapped_from, written_stored, tag_of_full}
@@ -63,7 +64,7 @@ full_byte : (t fill y : ℕ) → Among (full_block t fill).bytes y → y ≡ fil
 unfolding full_block
 full_byte t fill y m = among_same 4096 fill y m
 
-pub formed_written : (v : Volume) (block fill : ℕ) → first_of (free_tags v) ≢ 0 → fill ≤ 255 → FormedVolume v → FormedVolume (written v block fill)
+pub formed_written : (v : Volume) (block fill : ℕ) → first_number (free_tags v) ≢ 0 → fill ≤ 255 → FormedVolume v → FormedVolume (written v block fill)
 formed_written v block fill n small f = record {
   path = f.path;
   disk = f.disk;
@@ -81,19 +82,19 @@ formed_written v block fill n small f = record {
 }
   where
     long : (image : Image) → Among (images_of (written v block fill)) image → length image ≡ v.logical
-    long image (inl e) = rw (e, length-set v.active block (full_block (first_of (free_tags v)) fill)) (f.long v.active (inl refl))
+    long image (inl e) = rw (e, length-set v.active block (full_block (first_number (free_tags v)) fill)) (f.long v.active (inl refl))
     long image (inr m) = f.long image (inr m)
 
-    whole : (p : ℕ) (b : Block) → ((p ≡ block) × (b ≡ full_block (first_of (free_tags v)) fill)) ⊎ Stored v p b → length b.bytes ≡ 4096
-    whole p b (inl (i, e)) = rw e (full_long (first_of (free_tags v)) fill)
+    whole : (p : ℕ) (b : Block) → ((p ≡ block) × (b ≡ full_block (first_number (free_tags v)) fill)) ⊎ Stored v p b → length b.bytes ≡ 4096
+    whole p b (inl (i, e)) = rw e (full_long (first_number (free_tags v)) fill)
     whole p b (inr s) = f.whole p b s
 
-    bytes : (p : ℕ) (b : Block) → ((p ≡ block) × (b ≡ full_block (first_of (free_tags v)) fill)) ⊎ Stored v p b → (y : ℕ) → Among b.bytes y → y ≤ 255
-    bytes p b (inl (i, e)) y m = rw (full_byte (first_of (free_tags v)) fill y (subst (λ c. Among c.bytes y) e m)) small
+    bytes : (p : ℕ) (b : Block) → ((p ≡ block) × (b ≡ full_block (first_number (free_tags v)) fill)) ⊎ Stored v p b → (y : ℕ) → Among b.bytes y → y ≤ 255
+    bytes p b (inl (i, e)) y m = rw (full_byte (first_number (free_tags v)) fill y (subst (λ c. Among c.bytes y) e m)) small
     bytes p b (inr s) y m = f.bytes p b s y m
 
-    holes : (p : ℕ) (b : Block) → ((p ≡ block) × (b ≡ full_block (first_of (free_tags v)) fill)) ⊎ Stored v p b → b.tag ≡ 0 → b ≡ hole
-    holes p b (inl (i, e)) z = absurd (n (sym (tag_of_full (first_of (free_tags v)) fill) ∙ (sym (ap (λ c. c.tag) e) ∙ z)))
+    holes : (p : ℕ) (b : Block) → ((p ≡ block) × (b ≡ full_block (first_number (free_tags v)) fill)) ⊎ Stored v p b → b.tag ≡ 0 → b ≡ hole
+    holes p b (inl (i, e)) z = absurd (n (sym (tag_of_full (first_number (free_tags v)) fill) ∙ (sym (ap (λ c. c.tag) e) ∙ z)))
     holes p b (inr s) z = f.holes p b s z
 
 -- ---- a snapshot was taken

@@ -11,8 +11,8 @@ use oracle_world::{
 use sha2::{Digest, Sha256};
 use sm_base::{NoMemory, VolNo};
 use sm_model::{
-    Condition, Course, Line, Rules, WorldPolicy, WorldRelation, WorldRule, WorldTransfer,
-    copy_label,
+    Condition, Course, Line, Rules, WorldPolicy, WorldRelation, WorldTransfer, copy_label,
+    copy_rules,
 };
 use std::alloc::Global;
 
@@ -92,26 +92,6 @@ pub(crate) fn listed_line(
         time: snapshot.time,
         made: snapshot.maker,
     })
-}
-
-fn copy_rule(alloc: Global, rule: &WorldRule) -> Result<WorldRule, NoMemory>
-    ensures { IfOk result (λ copy. copy ≡ rule.now) }
-{
-    Ok(WorldRule {
-        label: rule.label.copy(alloc)?,
-        keep: rule.keep,
-        preserve: rule.preserve,
-    })
-}
-
-fn copy_rules(alloc: Global, rules: &[WorldRule]) -> Result<Vec<WorldRule>, NoMemory>
-    ensures { IfOk result (λ copy. copy.items ≡ rules.now) }
-{
-    let mut copy = Vec::new(alloc);
-    for rule in rules {
-        copy.push(copy_rule(alloc, rule)?)?;
-    }
-    Ok(copy)
 }
 
 /// The line on a policy.

@@ -7,7 +7,8 @@ use Rattle.std.proofs.lemmas.List.Elements.{filter_agree}
 use Rattle.sm_base.specs.declared.numbers.Ident.{Ident}
 use Rattle.sm_defs.specs.Image.{stands}
 use Rattle.sm_base.specs.declared.limits.TheConstants.{MOST_SNAPSHOTS, LAST_NUMBER}
-use Rattle.sm_defs.specs.Operations.{snapped, with_snapshot, counted, is_full, removed, IsLeastFree, least_free, first_of}
+use Rattle.sm_defs.specs.Operations.{snapped, with_snapshot, counted, is_full, removed, IsLeastFree, least_free}
+use Rattle.sm_defs.specs.Missing.{first_number}
 use Rattle.sm_defs.specs.Volume.{Volume, Snapshot, numbers, tags_of, without}
 use Rattle.sm_defs.specs.Words.{same_ident, has_ident}
 
@@ -47,7 +48,7 @@ removed_one v i = ap (λ (ss : List Snapshot). let w : Volume = record v { snaps
     (filter_agree (λ s. not (has_ident (i ∷ []) s.ident)) (λ s. not (same_ident s.ident i)) (λ s. ap not (same_back s.ident i)) v.snapshots)
 
 -- the first of the free numbers is the least
-first_passes : (p : ℕ → Bool) (a k n : ℕ) → a ≤ n → n < a + k → p n ≡ true → ((m : ℕ) → a ≤ m → m < n → p m ≡ false) → first_of (filter p (numbers a k)) ≡ n
+first_passes : (p : ℕ → Bool) (a k n : ℕ) → a ≤ n → n < a + k → p n ≡ true → ((m : ℕ) → a ≤ m → m < n → p m ≡ false) → first_number (filter p (numbers a k)) ≡ n
 first_passes p a zero n from below here before = absurd (omega arith)
 first_passes p a (suc k) n from below here before = elim (cases_eq a n) [
   | inl same ↦ let b : p a ≡ true = ap p same ∙ here in rw b same

@@ -7,15 +7,12 @@ use Rattle.sm_base.specs.declared.numbers.Kind.TheVariants.{Rw, Dp}
 use Rattle.sm_defs.specs.Image.{Block, Image, stands}
 use Rattle.sm_base.specs.declared.limits.TheConstants.{MOST_SNAPSHOTS, LAST_NUMBER}
 use Rattle.sm_defs.specs.Volume.{Volume, Snapshot, is_rw, has, used, tags_of, free_tags, without}
+use Rattle.sm_defs.specs.Missing.{first_number}
 use Rattle.sm_defs.specs.Words.{has_ident}
-
-abbrev pub first_of : List ℕ → ℕ
-first_of [] = 0
-first_of (t ∷ ts) = t
 
 -- the least number that no image of the volume uses, 0 where none is free
 abbrev pub least_free : Volume → ℕ
-least_free v = first_of (free_tags v)
+least_free v = first_number (free_tags v)
 
 -- a block at a place of the active image
 abbrev pub written : Volume → ℕ → Block → Volume

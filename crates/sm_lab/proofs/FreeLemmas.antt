@@ -7,7 +7,7 @@ use Rattle.std.proofs.lemmas.List.Sums.{sum_by-cons, count_by-le-length}
 use Rattle.std.specs.List.{list_all, prefix_len}
 use Rattle.sm_defs.specs.Image.{stands, distinct}
 use Rattle.sm_defs.specs.Volume.{numbers}
-use Rattle.sm_defs.specs.Operations.{first_of}
+use Rattle.sm_defs.specs.Missing.{first_number}
 use Rattle.sm_lab.specs.Slots.{times, counts}
 use Rattle.sm_lab.proofs.CountLemmas.{claimed, hole_counts, get_counts, length-counts}
 
@@ -26,14 +26,14 @@ pub times_zero : (t : ℕ) (ts : List ℕ) → (times t ts == 0) ≡ not (stands
 times_zero t [] = refl
 times_zero t (u ∷ us) = stands_by (u == t) (times t us) (stands t us) (times_zero t us)
 
-first_by : (b : Bool) (a n m k : ℕ) (fs : List ℕ) → cond (not b) (1 + m) 0 ≡ k → k < suc n → ((j : ℕ) → m ≡ j → j < n → first_of fs ≡ suc a + j) → first_of (cond b (a ∷ fs) fs) ≡ a + k
+first_by : (b : Bool) (a n m k : ℕ) (fs : List ℕ) → cond (not b) (1 + m) 0 ≡ k → k < suc n → ((j : ℕ) → m ≡ j → j < n → first_number fs ≡ suc a + j) → first_number (cond b (a ∷ fs) fs) ≡ a + k
 first_by true a n m k fs e less h = omega arith
 first_by false a n m k fs e less h =
-    let later : first_of fs ≡ suc a + m = h m refl (omega arith) in
+    let later : first_number fs ≡ suc a + m = h m refl (omega arith) in
     omega arith
 
 -- the first number that is counted nowhere is the least free one
-first_free : (f : ℕ → ℕ) (q : ℕ → Bool) (a n k : ℕ) → ((t : ℕ) → (f t == 0) ≡ q t) → prefix_len is_used (map f (numbers a n)) ≡ k → k < n → first_of (filter q (numbers a n)) ≡ a + k
+first_free : (f : ℕ → ℕ) (q : ℕ → Bool) (a n k : ℕ) → ((t : ℕ) → (f t == 0) ≡ q t) → prefix_len is_used (map f (numbers a n)) ≡ k → k < n → first_number (filter q (numbers a n)) ≡ a + k
 first_free f q a zero k h e less = absurd (omega arith)
 first_free f q a (suc n) k h e less =
     let here : (f a == 0) ≡ q a = h a in
@@ -43,7 +43,7 @@ first_free f q a (suc n) k h e less =
 abbrev pub is_free : List ℕ → ℕ → Bool
 is_free ts t = not (stands t ts)
 
-pub least_free : (n k : ℕ) (ts : List ℕ) → prefix_len is_used (counts n ts) ≡ k → k < n → first_of (filter (is_free ts) (numbers 1 n)) ≡ 1 + k
+pub least_free : (n k : ℕ) (ts : List ℕ) → prefix_len is_used (counts n ts) ≡ k → k < n → first_number (filter (is_free ts) (numbers 1 n)) ≡ 1 + k
 least_free n k ts e less = first_free (λ t. times t ts) (is_free ts) 1 n k (λ t. times_zero t ts) e less
 
 some_by : (b : Bool) (m c l : ℕ) → c ≤ l → (m < l → c < l) → cond b (1 + m) 0 < suc l → cond b 1 0 + c < suc l

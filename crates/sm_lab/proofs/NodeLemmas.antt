@@ -24,7 +24,7 @@ use Rattle.sm_defs.specs.World.{Up, with_volume, volume_at}
 use Rattle.sm_model.specs.Answers.{Answer, and_then, refused_if, some_or, volume_named, volno, told, shows}
 use Rattle.sm_model.specs.InRange.{HasRelation}
 use Rattle.sm_model.specs.OfVolumes as volumes
-use Rattle.sm_defs.specs.Operations as operations
+use Rattle.sm_defs.specs.Missing as missing
 use Rattle.sm_defs.proofs.Searches.{found_by_position, none_by_position}
 use Rattle.sm_lab.specs.Reporting.{IsServed}
 use Rattle.sm_lab.specs.Node.{volume_of, IsAnswered, IsWritten, IsSnapped, IsShown, ChangesOne, write_test, snap_test, read_test, create_test}
@@ -131,7 +131,7 @@ pub written_at : (w : Up) (path : List ℕ) (block fill at : ℕ) (reply : Reply
 unfolding and_then
 written_at w path block fill at reply u e h =
     let v = volume_at w at in
-    rw (named_some w path at e) (write_by (not (model.is_rw v.kind)) (nat_le v.logical block) (model.used v == v.physical) w at block fill (operations.first_of (model.free_tags v)) reply u h)
+    rw (named_some w path at e) (write_by (not (model.is_rw v.kind)) (nat_le v.logical block) (model.used v == v.physical) w at block fill (missing.first_number (model.free_tags v)) reply u h)
 
 snap_by : (a b c : Bool) (w : Up) (at : ℕ) (name : List ℕ) (label : Option (List ℕ)) (reply : Reply) (u : model.Volume) →
     IsSnapped (and_then (refused_if a refusals.ReadOnly) (λ _. and_then (refused_if b refusals.NameTaken) (λ _. and_then (refused_if c refusals.SnapFull) (λ _. Ok (tt {0}))))) at w.clock name label (volume_at w at) reply u →

@@ -99,10 +99,3 @@ digest_more v k count items next all below e h =
 -- the events of the volumes from a place on
 abbrev pub volumes_from : Up → ℕ → List Event
 volumes_from w i = events_of_volumes i (drop i w.volumes)
-
--- one more
-pub volume_more : (w : Up) (i : ℕ) (items next all : List Event) → i < length w.volumes → next ≡ items ++ events_of_volume i (volume_at w i) →
-    items ++ volumes_from w i ≡ all → next ++ volumes_from w (i + 1) ≡ all
-volume_more w i items next all below e h =
-    let opened = rw (drop-cons w.volumes i no_volume below) at h in
-    rw (e, add-one) (append_assoc items (events_of_volume i (volume_at w i)) _ ∙ opened)

@@ -9,7 +9,7 @@ use Rattle.sm_base.specs.declared.refusal.Refusal.TheVariants as refusals
 use Rattle.sm_defs.specs.Image.{Image, Block, tags, hole, full_block}
 use Rattle.sm_defs.specs.Volume as model
 use Rattle.sm_model.specs.Answers.{and_then, refused_if}
-use Rattle.sm_defs.specs.Operations.{first_of}
+use Rattle.sm_defs.specs.Missing.{first_number}
 use Rattle.sm_defs.specs.Volume.{numbers}
 use Rattle.sm_lab.specs.Slots.{slot_tags, taken_tags, all_tags, counts, times, next_of, block_of, snapshot_of, filled}
 use Rattle.sm_lab.specs.declared.volumes.TheConstants.{HOLE}
@@ -63,7 +63,7 @@ pub room_refused : (w : model.Volume) → (model.used w == w.physical) ≡ true 
 unfolding and_then refused_if
 room_refused w e = rw e refl
 
-room_given : (w : model.Volume) (t : ℕ) → (model.used w == w.physical) ≡ false → t ≡ first_of (model.free_tags w) → room_test w ≡ Ok t
+room_given : (w : model.Volume) (t : ℕ) → (model.used w == w.physical) ≡ false → t ≡ first_number (model.free_tags w) → room_test w ≡ Ok t
 unfolding and_then refused_if
 room_given w t e f = rw (e, f) refl
 
@@ -91,7 +91,7 @@ room_found v o t e p =
     let left : model.used (volume_of v) < v.physical = omega arith in
     let ts = all_tags v.active.items v.stable.items v.snapshots.items in
     let first : prefix_len is_used (counts v.physical ts) ≡ some.0 = sym (ap (λ (us : List ℕ). prefix_len is_used us) v.counts) ∙ at.0 in
-    let least : first_of (model.free_tags (volume_of v)) ≡ 1 + some.0 = rw (tags_are v) (least_free v.physical some.0 ts first (omega arith)) in
+    let least : first_number (model.free_tags (volume_of v)) ≡ 1 + some.0 = rw (tags_are v) (least_free v.physical some.0 ts first (omega arith)) in
     room_given (volume_of v) t (not_same _ _ left) (some.2 ∙ sym least)
 
 abbrev pub fits_in : ℕ → ℕ → Bool

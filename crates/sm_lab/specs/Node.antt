@@ -13,7 +13,7 @@ use Rattle.sm_defs.specs.Volume as model
 use Rattle.sm_defs.specs.World.{Up, empty_world}
 use Rattle.sm_defs.specs.Image.{Image, full_block}
 use Rattle.sm_model.specs.Answers.{Answer, Tells, bytes, ◌>>=◌, ◌>>◌, ◌when◌, some_or}
-use Rattle.sm_defs.specs.Operations.{first_of}
+use Rattle.sm_defs.specs.Missing.{first_number}
 use Rattle.sm_model.specs.OfVolumes.{block_at, image_named, client_ident, snapped}
 use Rattle.sm_lab.specs.Slots.{block_of, snapshot_of}
 use Rattle.sm_lab.specs.declared.volume.Volume.{Volume}
@@ -55,7 +55,7 @@ Answers old (Some a) reply new = IsAnswered old a reply new
 abbrev pub room_test : model.Volume → Result ℕ Refusal
 room_test v = do
   refusals.NoSpace when model.used v == v.physical
-  Ok (first_of (model.free_tags v))
+  Ok (first_number (model.free_tags v))
 
 -- the number that a write takes
 abbrev pub write_test : model.Volume → ℕ → Result ℕ Refusal

@@ -21,7 +21,8 @@ impl WorldRule {
     }
 }
 
-fn copy_rules(alloc: Global, rules: &[WorldRule]) -> Result<Vec<WorldRule>, NoMemory>
+/// Equal rules, in the same order.
+pub fn copy_rules(alloc: Global, rules: &[WorldRule]) -> Result<Vec<WorldRule>, NoMemory>
     ensures { IfOk result (λ copy. copy.items ≡ rules.now) }
 {
     let mut copy = Vec::new(alloc);

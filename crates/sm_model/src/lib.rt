@@ -6,6 +6,7 @@ mod event;
 mod reply;
 mod world;
 
+pub use copying::copy_rules;
 pub use event::{Event, copy_label};
 pub use reply::{Condition, Course, Entry, Line, Lines, Reply, Rules};
 pub use world::{

@@ -114,22 +114,6 @@ module _ (c : Image) (slot : ℕ) (bytes : List ℕ) (d : Result Root RootFault)
 
 -- ---- the faults of a disk
 
--- on a disk that is too short for any volume
-pub too_short : (s : DiskState) (number : VolNo) → s.size < least_need → (fault : VolumeFault) → IsOpenFault s number fault → fault ≢ DiskFault → fault ≢ OutOfMemory → IsOrFails fault (DiskSmall least_need s.size)
-too_short s number short DiskFault is other free = absurd (other refl)
-too_short s number short OutOfMemory is other free = absurd (free refl)
-too_short s number short (BadRoot slot at) is other free = absurd (let le = is.0 in omega (arith, le, short))
-too_short s number short (DiskSmall n len) is other free = ⊎_elim
-    (λ small. inl (ap (λ k. DiskSmall k s.size) (sym small.1) ∙ ap (λ k. DiskSmall n k) (sym is.0)))
-    (λ larger. absurd (let le = larger.0 in omega (arith, le, short))) is.1
-too_short s number short (OtherNumber found) is other free = absurd (let le = is.0 in omega (arith, le, short))
-too_short s number short faults.ReadOnly is other free = absurd is
-too_short s number short faults.BadBlock is other free = absurd is
-too_short s number short faults.NoSpace is other free = absurd is
-too_short s number short faults.NoSnapshot is other free = absurd is
-too_short s number short faults.NameTaken is other free = absurd is
-too_short s number short faults.SnapFull is other free = absurd is
-
 module _ (s : DiskState) (number : VolNo) (told : IsTrue s.told) (long : least_need ≤ s.size) where
   -- where no root was read
   pub not_read : (answer : VolumeFault) → ReadsRoot s.seen (Err answer) → (fault : VolumeFault) → IsOpenFault s number fault → fault ≢ DiskFault → fault ≢ OutOfMemory → IsOrFails fault answer
