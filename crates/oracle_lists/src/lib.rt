@@ -12,8 +12,6 @@ mod lists;
 mod missing;
 mod numbers;
 mod sending;
-#[cfg(test)]
-mod tests;
 mod values;
 
 pub use dropping::{common, is_pruned, pruned, sends_all};

@@ -317,6 +317,3 @@ fn path_of(text: &[u8]) -> bool
         Some(at) => part_of(&text[..at]) && part_of(&text[at + 1..]),
     }
 }
-
-#[cfg(test)]
-mod tests;

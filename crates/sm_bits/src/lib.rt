@@ -5,8 +5,6 @@
 #![tactic(auto)]
 
 mod map;
-#[cfg(test)]
-mod tests;
 mod words;
 
 pub use map::BitMap;

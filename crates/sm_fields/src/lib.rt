@@ -15,6 +15,3 @@ pub use parts::{
 };
 pub use reader::Reader;
 pub use writer::Writer;
-
-#[cfg(test)]
-mod tests;

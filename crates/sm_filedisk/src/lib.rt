@@ -2,7 +2,5 @@
 #![tactic(auto)]
 
 mod disk;
-#[cfg(test)]
-mod tests;
 
 pub use disk::FileDisk;

@@ -6,8 +6,6 @@ mod log;
 mod page;
 mod pages;
 mod store;
-#[cfg(test)]
-mod tests;
 mod undo;
 
 pub use disk::MemDisk;

@@ -25,6 +25,3 @@ pub use lists::{BlockMap, Snapshots};
 pub use reading::decode;
 pub use root::{Root, RootSnapshot, copy_label};
 pub use writing::encode;
-
-#[cfg(test)]
-mod tests;

@@ -14,6 +14,3 @@ mod words;
 
 pub use command::{Command, LineKind, Script, ScriptFault};
 pub use read::read_script;
-
-#[cfg(test)]
-mod tests;

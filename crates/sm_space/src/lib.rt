@@ -1,9 +1,6 @@
 //! The free block numbers of a volume.
 #![tactic(auto)]
 
-#[cfg(test)]
-mod tests;
-
 ghost use Rattle.std.specs.Prelude.{◌≡◌, ◌≢◌, ◌+◌, ◌<◌, ◌≤◌, ◌==◌, true, false, None, length, replicate, slice_set, IfOk, MatchOption};
 ghost use Rattle.sm_bits.specs.Places.{has, size, HasNoneFrom, IsLeastFrom, IsNextFrom};
 ghost use Rattle.sm_space.specs.Free.{free_of};

@@ -15,6 +15,3 @@ pub use standard::{StdSink, StdSource};
 pub use stream::{Sink, Source};
 pub use sure::{SureSink, SureSource};
 pub use whole::{ReadFault, read_whole, write_whole};
-
-#[cfg(test)]
-mod tests;

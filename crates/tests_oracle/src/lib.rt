@@ -10,6 +10,8 @@ mod failovers;
 #[cfg(test)]
 mod limits;
 #[cfg(test)]
+mod lists;
+#[cfg(test)]
 mod playing;
 #[cfg(test)]
 mod reasons;

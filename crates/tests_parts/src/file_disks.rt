@@ -1,7 +1,7 @@
 // The calls on a real file.
-use crate::FileDisk;
 use sm_base::Failed;
 use sm_disk::Disk;
+use sm_filedisk::FileDisk;
 use std::fs;
 use std::test::Fail;
 

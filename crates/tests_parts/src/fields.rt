@@ -1,5 +1,9 @@
-use super::*;
+// Each kind of field, and the faults of reading.
 use sm_base::Ident;
+use sm_fields::{
+    FieldFault, Reader, Writer, framed, read_head, read_identity, read_optional_identity,
+    read_truth, write_optional_identity,
+};
 use std::test::Fail;
 
 /// Each kind of field, one behind the other: a number of one byte, of four and of eight, a text, a

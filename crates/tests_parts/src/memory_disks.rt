@@ -1,7 +1,7 @@
 // Each call once, and what a restart leaves.
-use crate::{Image, MemDisk};
 use sm_base::Failed;
 use sm_disk::Disk;
+use sm_memdisk::{Image, MemDisk};
 use std::test::Fail;
 
 // Writes, where the range lies within the disk.

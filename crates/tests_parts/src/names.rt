@@ -1,4 +1,5 @@
-use super::*;
+// Names at the edges of their grammar.
+use sm_base::{Label, NameFault, Path, Path1, SnapName};
 use std::test::Fail;
 
 /// Whether a text is a good path, part, label and snapshot name.

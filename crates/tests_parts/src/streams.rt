@@ -1,5 +1,9 @@
-use super::*;
+// Sources and sinks, and where they fail.
 use sm_base::Failed;
+use sm_stream::{
+    MemSink, MemSource, ReadFault, Sink, Source, StdSink, StdSource, SureSink, SureSource,
+    read_whole, write_whole,
+};
 use std::io;
 use std::io::{Read, Write};
 use std::test::Fail;

@@ -1,6 +1,7 @@
-use super::*;
+// The record of a volume, read and written.
 use sm_base::{Ident, Kind, NoMemory, VolNo};
 use sm_fields::{Writer, framed, write_identity};
+use sm_root::{RootFault, decode, encode};
 use std::process::Abort;
 use std::test::Fail;
 

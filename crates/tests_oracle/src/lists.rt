@@ -1,4 +1,4 @@
-use crate::{
+use oracle_lists::{
     PlainBases, PlainBlock, PlainSnapshot, PlainSource, common, keep_reached, legs, mirror_cost,
     missing_places, missing_tags, pruned, retained, vault_cost, vault_landing,
 };

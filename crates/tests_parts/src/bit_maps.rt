@@ -1,4 +1,5 @@
-use super::*;
+// The ends of a map, and what two maps have together.
+use sm_bits::BitMap;
 use std::test::Fail;
 
 #[test]

@@ -1,4 +1,6 @@
-use super::*;
+// Which number is taken next.
+use sm_bits::BitMap;
+use sm_space::Space;
 use std::test::Fail;
 
 #[test]
