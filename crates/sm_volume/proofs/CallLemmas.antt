@@ -32,7 +32,7 @@ use Rattle.volume_store.specs.Opened.{empty_maps}
 use Rattle.volume_store.specs.Refusals.{used_of}
 use Rattle.volume_store.specs.Refusals as store_refusals
 use Rattle.sm_root.specs.Condition as store_snapshot
-use Rattle.volume_store.proofs.Found.{nowhere}
+use Rattle.volume_store.proofs.FoundLemmas.{nowhere}
 use Rattle.sm_volume.specs.Seen.{block_of, image_of, seen_snapshot, volume_of}
 use Rattle.sm_volume.specs.Mounted.{Mounted, mounted}
 use Rattle.sm_volume.specs.Assigned.{HasBlock, snapped, staying, IsReverted}

@@ -17,4 +17,4 @@ mod volume;
 
 pub use laws::{part_goes_on, part_is_committed, shown_at_any_place};
 pub use volume::Volume;
-pub use volume_store::{Head, View, VolumeFault, look};
+pub use volume_store::{Found, Head, View, VolumeFault, find, look};

@@ -4,15 +4,16 @@ ghost use Rattle.sm_base.specs.declared.limits.TheConstants.{MOST_LOGICAL, MOST_
 ghost use Rattle.sm_defs.specs.Volume.{new_volume};
 ghost use Rattle.sm_disk.specs.Disk.{GoesOn, IsQuiet, IsCounted, IsSynced};
 ghost use Rattle.volume_store.specs.Held.{need};
-ghost use Rattle.volume_store.specs.Opened.{IsCreateFault, IsOpenFault, AnswersEachFault, without_disk};
+ghost use Rattle.volume_store.specs.Opened.{IsCreateFault, IsOpenFault, IsFoundOn, AnswersEachFault, without_disk};
 ghost use Rattle.sm_volume.specs.Mounted.{Mounted, opened};
+ghost use Rattle.sm_volume.specs.Seen.{root_of};
 ghost use Rattle.sm_volume.specs.Shown.{Selects, KeepsBlocks, NoBlock};
 
 use crate::volume::Volume;
 use sm_base::{Kind, VolNo};
 use sm_disk::Disk;
 use std::alloc::Global;
-use volume_store::{Store, VolumeFault};
+use volume_store::{Found, Store, VolumeFault};
 
 impl<D: Disk> Volume<D> {
     /// Makes a volume of holes on a disk that may hold anything.
@@ -75,5 +76,20 @@ impl<D: Disk> Volume<D> {
             }
             Err(fault) => Err(fault),
         }
+    }
+
+    /// Takes the volume that was found on the disk, once all that was written before is on the medium. No
+    /// device is called.
+    pub fn start(disk: D, found: Found) -> Volume<D>
+        requires found { IsFoundOn (D.state disk) found }
+        requires synced { IsSynced (D.state disk) }
+        ensures value { result ≡ record result { disk = disk; number = found.maps.root.number; selected = found.number; after = None; up = true } }
+        ensures opened { result.volume ≡ opened result.volume }
+        ensures root { root_of result.number result.volume ≡ found.maps.root }
+        ensures selected { IsTrue (D.state disk).told → Selects result.selected result.number result.volume (D.state disk).seen }
+    {
+        let store = Store::start(disk, found);
+        store.told();
+        Volume { store }
     }
 }

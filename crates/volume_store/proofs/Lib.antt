@@ -6,6 +6,6 @@ pub mod Framed
 pub mod Shown
 pub mod Sound
 pub mod Used
-pub mod Found
+pub mod FoundLemmas
 pub mod RootRead
 pub mod Committed

@@ -41,6 +41,19 @@ pub record IsRootOn (c : Image) (r : Root) : Type 0 where
   pub good : IsRoot r
   pub spelled : stored c ≡ Record (spelling r)
 
+-- A volume that was found on a disk: the number of its record, and its maps.
+pub record FoundMaps : Type 0 where
+  pub number : ℕ
+  pub maps : Maps
+
+-- It is what the disk has, with the stable image as the active one; where the disk tells its content, its selected record is this root.
+pub record IsFoundOn (s : DiskState) (f : FoundMaps) : Type 0 where
+  pub settled : f.maps.active ≡ f.maps.root.stable
+  pub one_of_two : f.number < 2
+  pub room : need f.maps.root.physical ≤ s.size
+  pub root : IsTrue s.told → IsRootOn s.seen f.maps.root
+  pub slot : IsTrue s.told → f.number ≡ slot_of s.seen
+
 -- the selected record of the image is no root: a blank slot is so at its first byte, a length that passes the slot at that
 -- length, after the magic word, and a record at the first byte that fits no root
 abbrev pub IsNoRootOn : Image → ℕ → Type 0

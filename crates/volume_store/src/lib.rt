@@ -10,6 +10,7 @@ mod blocks;
 mod calls;
 mod faults;
 mod finding;
+mod found;
 mod held;
 mod io;
 mod marks;
@@ -21,6 +22,7 @@ mod state;
 
 pub use faults::VolumeFault;
 pub use finding::look;
+pub use found::{Found, find};
 pub use held::Store;
 pub use io::View;
 pub use sm_root::Head;

@@ -1,5 +1,5 @@
 // A volume is made on a disk, or found there.
-ghost use Rattle.std.specs.Prelude.{◌≡◌, ◌⊎◌, ℕ, ◌≤◌, ◌<◌, true, None, IfOk, IfErr, MatchResult, IsTrue};
+ghost use Rattle.std.specs.Prelude.{◌≡◌, ◌≤◌, true, Err, None, IfOk, IfErr, MatchResult, IsTrue};
 ghost use Rattle.sm_base.specs.declared.limits.TheConstants.{MOST_LOGICAL, MOST_PHYSICAL};
 ghost use Rattle.sm_disk.specs.Disk.{GoesOn, IsQuiet, IsCounted, IsSynced};
 ghost use Rattle.sm_disk.specs.Spared.{Spares};
@@ -8,16 +8,16 @@ ghost use Rattle.sm_slots.specs.Stored.{slot_of};
 ghost use Rattle.sm_root.specs.Condition.{IsRoot};
 ghost use Rattle.sm_root.specs.declared.root.Root.{Root};
 ghost use Rattle.volume_store.specs.Held.{Held, need};
-ghost use Rattle.volume_store.specs.Opened.{empty_maps, IsCreateFault, IsOpenFault, IsRootOn, AnswersEachFault, without_disk};
+ghost use Rattle.volume_store.specs.Opened.{empty_maps, IsCreateFault, IsOpenFault, IsFoundOn, IsRootOn, AnswersEachFault, without_disk};
 
 use crate::blocks::need_of;
 use crate::faults::VolumeFault;
-use crate::finding::look;
+use crate::found::{Found, find};
 use crate::held::Store;
 use crate::state::State;
 use sm_base::{Kind, NoMemory, VolNo};
 use sm_disk::Disk;
-use sm_root::{Root, encode};
+use sm_root::encode;
 use sm_slots::Slots;
 use std::alloc::Global;
 
@@ -96,29 +96,33 @@ impl<D: Disk> Store<D> {
         ensures any_moment { MatchResult result (λ v. GoesOn (D.state disk) (D.state v.disk) (D.state disk).may_leave) (λ e. GoesOn (D.state disk) (D.state e.0) (D.state disk).may_leave) }
     {
         let mut disk = disk;
-        match find_on(alloc, &mut disk, number) {
-            Ok((slots, state)) => Ok(Store {
-                disk,
-                slots,
-                state,
-                after: None,
-                up: true,
-            }),
+        match find_synced(alloc, &mut disk, number) {
+            Ok(found) => Ok(Store::start(disk, found)),
             Err(fault) => Err((disk, fault)),
+        }
+    }
+
+    /// Takes the volume that was found on the disk, once all that was written before is on the medium. No
+    /// device is called.
+    pub fn start(disk: D, found: Found) -> Store<D>
+        requires found { IsFoundOn (D.state disk) found }
+        requires synced { IsSynced (D.state disk) }
+        ensures { result ≡ record { disk = disk; number = found.number; maps = found.maps; after = None; up = true } }
+    {
+        Store {
+            disk,
+            slots: found.slots,
+            state: found.state,
+            after: None,
+            up: true,
         }
     }
 }
 
-// Finds the slots and the state of a volume. Nothing is put onto the medium before all else is done.
-fn find_on<D: Disk>(
-    alloc: Global,
-    disk: &mut D,
-    number: VolNo,
-) -> Result<(Slots, State), VolumeFault>
-    ensures ok { IfOk result (λ p. (p.1.active ≡ p.1.root.stable) × (p.1.root.number ≡ number) × (need p.1.root.physical ≤ (D.state disk.old).size)
-        × (IsTrue (D.state disk.old).told → IsRootOn (D.state disk.old).seen p.1.root)) }
-    ensures slot { IfOk result (λ p. (p.0 < 2) × (IsTrue (D.state disk.old).told → p.0 ≡ slot_of (D.state disk.old).seen)) }
-    ensures synced { IfOk result (λ p. IsSynced (D.state disk.new)) }
+// Finds a volume, and puts onto the medium what was written before, as the last step.
+fn find_synced<D: Disk>(alloc: Global, disk: &mut D, number: VolNo) -> Result<Found, VolumeFault>
+    ensures found { IfOk result (λ f. IsFoundOn (D.state disk.new) f × (f.maps.root.number ≡ number)) }
+    ensures synced { IfOk result (λ f. IsSynced (D.state disk.new)) }
     ensures faults { IfErr result (IsOpenFault (D.state disk.old) number) }
     ensures exact { AnswersEachFault (D.state disk.old) number result }
     ensures counted { result ≡ Err VolumeFault.DiskFault → IsCounted (D.state disk.old) (D.state disk.new) }
@@ -126,17 +130,7 @@ fn find_on<D: Disk>(
     ensures seen { (D.state disk.new).seen ≡ (D.state disk.old).seen }
     ensures any_moment { GoesOn (D.state disk.old) (D.state disk.new) (D.state disk.old).may_leave }
 {
-    let (slots, root) = look(alloc, disk, number)?;
-    let state = found_state(alloc, root)?;
+    let found = find(alloc, disk, number)?;
     disk.sync()?;
-    Ok((slots, state))
-}
-
-// The state of a root that was read from a disk.
-fn found_state(alloc: Global, root: Root) -> Result<State, NoMemory>
-    requires { IsRoot root }
-    ensures { IfOk result (λ state. state ≡ record { root = root; active = root.stable }) }
-{
-    let active = root.stable.to_vec(alloc)?;
-    State::new(alloc, root, active)
+    Ok(found)
 }

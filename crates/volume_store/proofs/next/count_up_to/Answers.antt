@@ -1,7 +1,7 @@
 use Rattle.std.proofs.Common.{Some, None, sym, ◌∙◌}
 use Rattle.sm_defs.specs.Words.{same_ident}
 use Rattle.sm_root.specs.declared.root.RootSnapshot.{RootSnapshot}
-use Rattle.volume_store.proofs.Found.{kept_to}
+use Rattle.volume_store.proofs.FoundLemmas.{kept_to}
 use Rattle.volume_store.proofs.next.count_up_to.Goals as goal
 
 pub returns-in-Some : goal.returns-in-Some

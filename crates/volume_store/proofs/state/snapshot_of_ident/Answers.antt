@@ -1,7 +1,7 @@
 use Rattle.std.proofs.Common.{Bool, sym, subst}
 use Rattle.sm_defs.specs.Words.{same_ident}
 use Rattle.sm_root.specs.declared.root.RootSnapshot.{RootSnapshot}
-use Rattle.volume_store.proofs.Found.{Tells, find_tells}
+use Rattle.volume_store.proofs.FoundLemmas.{Tells, find_tells}
 use Rattle.volume_store.proofs.state.snapshot_of_ident.Goals as goal
 
 pub returns-in-Some-clause-some : goal.returns-in-Some-clause-some

@@ -2,7 +2,7 @@ use Rattle.std.proofs.Common.{◌≡◌, List, sym, ◌∙◌, ap}
 use Rattle.sm_root.specs.declared.root.RootSnapshot.{RootSnapshot}
 use Rattle.volume_store.specs.Held.{Held}
 use Rattle.volume_store.specs.Refusals.{has_snapshot}
-use Rattle.volume_store.proofs.Found.{nowhere}
+use Rattle.volume_store.proofs.FoundLemmas.{nowhere}
 use Rattle.volume_store.proofs.held.Store.has_snapshot.Goals as goal
 
 pub returns-clause-new : goal.returns-clause-new

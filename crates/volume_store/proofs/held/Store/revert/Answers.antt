@@ -11,7 +11,7 @@ use Rattle.volume_store.specs.Maps.{Maps}
 use Rattle.volume_store.specs.Next.{reverted}
 use Rattle.volume_store.specs.Refusals.{has_snapshot}
 use Rattle.volume_store.specs.Commits.{BeforeOrAfter}
-use Rattle.volume_store.proofs.Found.{found_one}
+use Rattle.volume_store.proofs.FoundLemmas.{found_one}
 use Rattle.volume_store.proofs.held.Store.revert.Goals as goal
 
 abbrev Same : Result Maps VolumeFault → Result Maps VolumeFault → Type 0

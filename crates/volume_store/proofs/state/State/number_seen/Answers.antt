@@ -6,7 +6,7 @@ use Rattle.sm_defs.specs.Words.{Among, same_ident}
 use Rattle.sm_defs.proofs.Members.{among_map}
 use Rattle.volume_store.specs.Maps.{Maps}
 use Rattle.volume_store.specs.Refusals.{map_seen}
-use Rattle.volume_store.proofs.Found.{if_ok_more}
+use Rattle.volume_store.proofs.FoundLemmas.{if_ok_more}
 use Rattle.volume_store.proofs.state.State.number_seen.Goals as goal
 
 pub returns-in-Some-clause-seen : goal.returns-in-Some-clause-seen

@@ -1,6 +1,6 @@
 use Rattle.std.proofs.Common.{refl}
 use Rattle.volume_store.proofs.Sound.{maps_found, moved_maps}
-use Rattle.volume_store.proofs.open.found_state.Goals as goal
+use Rattle.volume_store.proofs.found.found_state.Goals as goal
 
 pub new-requires-clause-maps : goal.new-requires-clause-maps
 new-requires-clause-maps c =
