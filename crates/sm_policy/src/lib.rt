@@ -2,7 +2,10 @@
 #![tactic(auto)]
 
 mod adding;
+mod classing;
+mod folding;
 mod policy;
+mod reaching;
 mod ruling;
 
 pub use adding::RuleFault;
