@@ -2,7 +2,10 @@
 #![tactic(auto)]
 
 mod legs;
+mod may;
 mod relation;
+mod state;
 
 pub use legs::Legs;
 pub use relation::{Relation, Standing};
+pub use state::mirror_state;
