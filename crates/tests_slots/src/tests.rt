@@ -1,4 +1,6 @@
-ghost use Rattle.std.specs.Prelude.{◌≡◌, ◌^◌, ◌<◌, length, false, IfOk};
+// Each step is made whole by a function that takes any disk and answers little, so that what a call
+// promises of a disk stays out of the proofs of the tests.
+ghost use Rattle.std.specs.Prelude.{◌≡◌, ◌^◌, ◌<◌, ◌≤◌, length, false, IfSome, IfOk};
 ghost use Rattle.sm_slots.specs.Stored.{IsFramed, is_blank, slots_end};
 ghost use Rattle.sm_slots.specs.Slots.{IsSettled};
 
@@ -9,7 +11,6 @@ use sm_slots::{
     RecordFault, SLOT_LEN, SLOTS_END, SlotFault, Slots, commit_and_restart, restart_and_open,
 };
 use std::alloc::Global;
-use std::test::Fail;
 
 const MAGIC: &[u8; 8] = b"SMCATL01";
 
@@ -24,6 +25,23 @@ const RECORD: [u8; 44] = [
     1, 0, 0, 0, 0, 0, 0, 0, 1, 0, 0, 0, 0, 0, 0, 0, 0, 0, 0, 0, 0,
 ];
 
+// A disk of the slots and one byte, which fails at one call, or stops at one, where it is not 0.
+fn disk_of(alloc: Global, fails: u64, stops: u64, image: Image) -> Option<MemDisk> {
+    let mut disk = MemDisk::new(alloc, SLOTS_END + 1).ok()?;
+    if fails > 0 {
+        disk.fail_at(fails).ok()?;
+    }
+    if stops > 0 {
+        disk.stop_from(stops);
+    }
+    disk.choose(image);
+    Some(disk)
+}
+
+fn sound(alloc: Global) -> Option<MemDisk> {
+    disk_of(alloc, 0, 0, Image::Old)
+}
+
 // A record with this magic word and this body.
 fn framed(alloc: Global, magic: &[u8], body: &[u8]) -> Result<Vec<u8>, NoMemory>
     requires eight { length magic.now ≡ 8 }
@@ -35,95 +53,180 @@ fn framed(alloc: Global, magic: &[u8], body: &[u8]) -> Result<Vec<u8>, NoMemory>
     sm_fields::framed(alloc, magic, body)
 }
 
-#[test]
-fn reads_what_was_committed(rt: HostRuntime) -> Result<(), Fail> {
-    let alloc = rt.alloc();
-    let mut disk = MemDisk::new(alloc, SLOTS_END)?;
-    let slots = Slots::open(&mut disk)?;
-    assert_eq!(rt; slots.slot(), 0);
-    assert!(rt; slots.record(alloc, &mut disk)?.is_none(), "a blank slot");
-    let mut slots = restart_and_open(&mut disk)?;
-    let bytes = framed(alloc, MAGIC, &BODY)?;
-    slots.commit(&mut disk, &bytes)?;
-    assert_eq!(rt; slots.slot(), 1);
-    let found = slots.record(alloc, &mut disk)?.ok_or("no record")?;
-    assert_eq!(rt; found.as_slice(), RECORD.as_slice());
-    Ok(())
-}
-
-// A record that is one byte longer than a slot.
-fn too_long(alloc: Global) -> Result<Vec<u8>, NoMemory>
-    ensures { IfOk result (λ made. IsFramed made.items) }
+// A record with this body, which is at most as long as a slot.
+fn record_of(alloc: Global, body: &[u8]) -> Option<Vec<u8>>
+    ensures { IfSome result (λ made. IsFramed made.items) }
 {
-    let body = vec![in alloc; 0u8; SLOT_LEN - 11]?;
-    framed(alloc, MAGIC, &body)
-}
-
-#[test]
-fn refuses_a_record_longer_than_a_slot(rt: HostRuntime) -> Result<(), Fail> {
-    let alloc = rt.alloc();
-    let mut disk = MemDisk::new(alloc, SLOTS_END)?;
-    let mut slots = restart_and_open(&mut disk)?;
-    let bytes = too_long(alloc)?;
-    assert_eq!(rt; slots.commit(&mut disk, &bytes), Err(SlotFault::TooLarge));
-    assert!(rt; Slots::format(&mut disk, &bytes).is_err(), "formatted");
-    assert_eq!(rt; bytes.len(), 4_456_449);
-    Ok(())
-}
-
-// What is read of a slot that states this length for the body of its record.
-fn read_of_length(alloc: Global, body: u32) -> Result<Result<Option<usize>, RecordFault>, Fail> {
-    let mut disk = MemDisk::new(alloc, SLOTS_END)?;
-    disk.write(4096, MAGIC)?;
-    disk.write(4104, &body.to_be_bytes())?;
-    let slots = Slots::open(&mut disk)?;
-    let found = slots.record(alloc, &mut disk);
-    Ok(found.map(|record| record.map(|bytes| bytes.len())))
-}
-
-#[test]
-fn reads_as_far_as_a_slot_goes(rt: HostRuntime) -> Result<(), Fail> {
-    let alloc = rt.alloc();
-    assert_eq!(rt; read_of_length(alloc, 0)?, Ok(Some(12)));
-    assert_eq!(rt; read_of_length(alloc, 4_456_436)?, Ok(Some(4_456_448)));
-    assert_eq!(rt;
-        read_of_length(alloc, 4_456_437)?,
-        Err(RecordFault::BadLength)
-    );
-    assert_eq!(rt;
-        read_of_length(alloc, u32::MAX)?,
-        Err(RecordFault::BadLength)
-    );
-    Ok(())
-}
-
-#[test]
-fn each_byte_selects_a_slot(rt: HostRuntime) -> Result<(), Fail> {
-    for (byte, slot) in [(0, 0), (1, 1), (2, 0), (7, 1), (254, 0), (255, 1)] {
-        let mut disk = MemDisk::new(rt.alloc(), SLOTS_END)?;
-        disk.write(0, &[byte])?;
-        let slots = Slots::open(&mut disk)?;
-        assert_eq!(rt; slots.slot(), slot, "at the byte {byte}");
+    if body.len() > SLOT_LEN {
+        return None;
     }
-    Ok(())
+    framed(alloc, MAGIC, body).ok()
+}
+
+// What is read of a disk.
+#[derive(Drop)]
+struct Found {
+    slot: u8,
+    record: Option<Vec<u8>>,
+}
+
+fn read<D: Disk>(alloc: Global, disk: &mut D) -> Result<Found, RecordFault> {
+    if disk.len() < SLOTS_END {
+        return Err(RecordFault::BadLength);
+    }
+    match Slots::open(disk) {
+        Ok(slots) => {
+            let record = slots.record(alloc, disk)?;
+            let slot = slots.slot();
+            Ok(Found { slot, record })
+        }
+        Err(_) => Err(RecordFault::DiskFault),
+    }
+}
+
+// The number of the slot after a restart and a commit of the record.
+fn commit<D: Disk>(disk: &mut D, bytes: &[u8]) -> Result<u8, SlotFault>
+    requires { IsFramed bytes.now }
+{
+    if disk.len() < SLOTS_END {
+        return Err(SlotFault::DiskFault);
+    }
+    let mut slots = restart_and_open(disk)?;
+    slots.commit(disk, bytes)?;
+    Ok(slots.slot())
+}
+
+// The number of the slot after a format with the record.
+fn format<D: Disk>(disk: &mut D, bytes: &[u8]) -> Result<u8, SlotFault>
+    requires { IsFramed bytes.now }
+{
+    if disk.len() < SLOTS_END {
+        return Err(SlotFault::DiskFault);
+    }
+    let slots = Slots::format(disk, bytes)?;
+    Ok(slots.slot())
+}
+
+fn reads_blank<D: Disk>(alloc: Global, disk: &mut D) -> Option<bool> {
+    let found = read(alloc, disk).ok()?;
+    Some(found.slot == 0 && found.record.is_none())
+}
+
+fn holds<D: Disk>(alloc: Global, disk: &mut D, slot: u8, bytes: &[u8]) -> Option<bool> {
+    let found = read(alloc, disk).ok()?;
+    let record = found.record?;
+    Some(found.slot == slot && record.as_slice() == bytes)
+}
+
+fn commit_body<D: Disk>(alloc: Global, disk: &mut D) -> Option<u8> {
+    let bytes = record_of(alloc, &BODY)?;
+    commit(disk, &bytes).ok()
+}
+
+// Whether a blank disk has no record, and after a commit the one that was committed.
+fn is_read_back(alloc: Global) -> Option<bool> {
+    let mut disk = sound(alloc)?;
+    let blank = reads_blank(alloc, &mut disk)?;
+    let slot = commit_body(alloc, &mut disk)?;
+    let held = holds(alloc, &mut disk, 1, &RECORD)?;
+    Some(blank && slot == 1 && held)
 }
 
 #[test]
-fn a_failed_read_is_told(rt: HostRuntime) -> Result<(), Fail> {
-    let alloc = rt.alloc();
-    let bytes = framed(alloc, MAGIC, &BODY)?;
-    for call in [5, 6] {
-        let mut disk = MemDisk::new(alloc, SLOTS_END)?;
-        let slots = Slots::format(&mut disk, &bytes)?;
-        disk.fail_at(call)?;
-        let found = slots.record(alloc, &mut disk);
-        assert!(rt;
-            matches!(found, Err(RecordFault::DiskFault)),
+fn reads_what_was_committed(rt: HostRuntime) {
+    assert_eq!(rt; is_read_back(rt.alloc()), Some(true));
+}
+
+fn zeros(alloc: Global, len: usize) -> Option<Vec<u8>> {
+    vec![in alloc; 0u8; len].ok()
+}
+
+// What a commit and a format answer to a record that is one byte longer than a slot, and its length.
+fn put_too_long(alloc: Global) -> Option<(Result<u8, SlotFault>, Result<u8, SlotFault>, usize)> {
+    let body = zeros(alloc, SLOT_LEN - 11)?;
+    let bytes = record_of(alloc, &body)?;
+    let mut disk = sound(alloc)?;
+    let committed = commit(&mut disk, &bytes);
+    let formatted = format(&mut disk, &bytes);
+    Some((committed, formatted, bytes.len()))
+}
+
+#[test]
+fn refuses_a_record_longer_than_a_slot(rt: HostRuntime) {
+    let too_large = Err(SlotFault::TooLarge);
+    assert_eq!(rt;
+        put_too_long(rt.alloc()),
+        Some((too_large, too_large, 4_456_449))
+    );
+}
+
+// Writes a selector and the head of slot 0, which states this length for the body of its record.
+fn write_head<D: Disk>(disk: &mut D, selector: u8, stated: u32) -> Option<()> {
+    if disk.len() < SLOTS_END {
+        return None;
+    }
+    disk.write(0, &[selector]).ok()?;
+    disk.write(4096, MAGIC).ok()?;
+    disk.write(4104, &stated.to_be_bytes()).ok()
+}
+
+// The slot that is read of such a disk, and the length of its record, 0 where it is blank.
+fn read_of(alloc: Global, selector: u8, stated: u32) -> Option<Result<(u8, usize), RecordFault>> {
+    let mut disk = sound(alloc)?;
+    write_head(&mut disk, selector, stated)?;
+    match read(alloc, &mut disk) {
+        Ok(found) => {
+            let len = found.record.map_or(0, |bytes| bytes.len());
+            Some(Ok((found.slot, len)))
+        }
+        Err(fault) => Some(Err(fault)),
+    }
+}
+
+const STATED: [(u8, u32, Result<(u8, usize), RecordFault>); 10] = [
+    (0, 0, Ok((0, 12))),
+    (0, 4_456_436, Ok((0, 4_456_448))),
+    (0, 4_456_437, Err(RecordFault::BadLength)),
+    (0, u32::MAX, Err(RecordFault::BadLength)),
+    (1, 7, Ok((1, 0))),
+    (2, 7, Ok((0, 19))),
+    (7, 7, Ok((1, 0))),
+    (254, 7, Ok((0, 19))),
+    (255, 7, Ok((1, 0))),
+    (1, u32::MAX, Ok((1, 0))),
+];
+
+#[test]
+fn reads_the_slot_that_is_selected(rt: HostRuntime) {
+    for (selector, stated, wanted) in STATED {
+        let found = read_of(rt.alloc(), selector, stated);
+        assert_eq!(rt;
+            found,
+            Some(wanted),
+            "the selector {selector}, {stated} stated"
+        );
+    }
+}
+
+// What is read where the disk fails at that call, of which the first four are those of a format, and how
+// often it failed.
+fn read_failing(alloc: Global, call: u64) -> Option<(bool, u64)> {
+    let bytes = record_of(alloc, &BODY)?;
+    let mut disk = disk_of(alloc, call, 0, Image::Old)?;
+    format(&mut disk, &bytes).ok()?;
+    let told = matches!(read(alloc, &mut disk), Err(RecordFault::DiskFault));
+    Some((told, disk.faults()))
+}
+
+#[test]
+fn a_failed_read_is_told(rt: HostRuntime) {
+    for call in 5..8u64 {
+        assert_eq!(rt;
+            read_failing(rt.alloc(), call),
+            Some((true, 1)),
             "at the call {call}"
         );
-        assert_eq!(rt; disk.faults(), 1);
     }
-    Ok(())
 }
 
 // What a restart leaves of the selector that a commit was about to set to 1.
@@ -137,68 +240,63 @@ const IMAGES: [(Image, u8); 7] = [
     (Image::Fill(255), 1),
 ];
 
-#[derive(Drop)]
-struct Outcome {
-    slot: u8,
-    record: Vec<u8>,
-    behind: u8,
-    faults: u64,
-}
+// The bodies of the records before a commit and after it.
+const BODIES: [&[u8]; 2] = [b"old", b"the new one"];
 
-// What is read after a commit and a restart: the slot's number, its record and the byte behind
-// the slots.
-fn read_after<D: Disk>(
-    alloc: Global,
-    slots: Slots,
-    disk: &mut D,
-    bytes: &[u8],
-) -> Result<Outcome, Fail>
-    requires room { slots_end < (D.state disk.old).size }
-    requires framed { IsFramed bytes.now }
-    requires settled { IsSettled (D.state disk.old) slots }
+// The slots with the first record, on a disk with a byte behind them.
+fn begun<D: Disk>(alloc: Global, disk: &mut D) -> Option<Slots>
+    ensures room { IfSome result (λ slots. slots_end < (D.state disk.new).size) }
+    ensures settled { IfSome result (λ slots. IsSettled (D.state disk.new) slots) }
 {
-    let slots = commit_and_restart(slots, disk, bytes)?;
-    let record = slots.record(alloc, disk)?.ok_or("no record")?;
-    let mut behind = [0u8];
-    disk.read(SLOTS_END, &mut behind)?;
-    Ok(Outcome {
-        slot: slots.slot(),
-        record,
-        behind: behind[0],
-        faults: disk.faults(),
-    })
+    let bytes = record_of(alloc, b"old")?;
+    if disk.len() <= SLOTS_END {
+        return None;
+    }
+    disk.write(SLOTS_END, &[0x5a]).ok()?;
+    Slots::format(disk, &bytes).ok()
 }
 
-// A commit that the disk stops at that call, through a restart that leaves the image.
-fn stopped(alloc: Global, call: u8, image: Image) -> Result<Outcome, Fail> {
-    let old = framed(alloc, MAGIC, b"old")?;
-    let new = framed(alloc, MAGIC, b"the new one")?;
-    let mut disk = MemDisk::new(alloc, SLOTS_END + 1)?;
-    disk.write(SLOTS_END, &[0x5a])?;
-    let slots = Slots::format(&mut disk, &old)?;
-    // So far there was a write, and the four calls of the format.
-    disk.stop_from(5 + u64::from(call));
-    disk.choose(image);
-    read_after(alloc, slots, &mut disk, &new)
+// The number of the slot after a commit of the second record and a restart.
+fn commit_second<D: Disk>(alloc: Global, disk: &mut D) -> Option<u8> {
+    let bytes = record_of(alloc, b"the new one")?;
+    let slots = begun(alloc, disk)?;
+    let slots = commit_and_restart(slots, disk, &bytes).ok()?;
+    Some(slots.slot())
+}
+
+fn behind<D: Disk>(disk: &mut D) -> Option<u8> {
+    if disk.len() <= SLOTS_END {
+        return None;
+    }
+    let mut byte = [0u8];
+    disk.read(SLOTS_END, &mut byte).ok()?;
+    Some(byte[0])
+}
+
+fn holds_body<D: Disk>(alloc: Global, disk: &mut D, slot: u8) -> Option<bool> {
+    let bytes = record_of(alloc, BODIES[(slot % 2) as usize])?;
+    holds(alloc, disk, slot, &bytes)
+}
+
+// Whether the slot of this number is selected with its record after a commit that the disk stops at
+// that call, and one failure was counted, and the byte behind the slots stands.
+fn is_left(alloc: Global, call: u64, image: Image, slot: u8) -> Option<bool> {
+    // So far there is a write, and the four calls of the format.
+    let mut disk = disk_of(alloc, 0, 5 + call % 8, image)?;
+    let selected = commit_second(alloc, &mut disk)?;
+    let held = holds_body(alloc, &mut disk, slot)?;
+    let byte = behind(&mut disk)?;
+    Some(selected == slot && held && byte == 0x5a && disk.faults() == 1)
 }
 
 #[test]
-fn no_crash_tears_a_commit(rt: HostRuntime) -> Result<(), Fail> {
-    for call in 1..5u8 {
+fn no_crash_tears_a_commit(rt: HostRuntime) {
+    for call in 1..5u64 {
         for (image, low_bit) in IMAGES {
-            let outcome = stopped(rt.alloc(), call, image)?;
             // The selector is written by the third call.
             let slot = if call < 3 { 0 } else { low_bit };
-            let body: &[u8] = if slot == 0 { b"old" } else { b"the new one" };
-            assert_eq!(rt; outcome.slot, slot, "{image:?} at the call {call}");
-            assert!(rt;
-                outcome.record.ends_with(body),
-                "{image:?} at the call {call}"
-            );
-            assert_eq!(rt; outcome.record.len(), 12 + body.len());
-            assert_eq!(rt; outcome.behind, 0x5a, "{image:?} at the call {call}");
-            assert_eq!(rt; outcome.faults, 1, "{image:?} at the call {call}");
+            let is_left = is_left(rt.alloc(), call, image, slot);
+            assert_eq!(rt; is_left, Some(true), "{image:?} at the call {call}");
         }
     }
-    Ok(())
 }
