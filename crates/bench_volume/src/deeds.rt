@@ -4,12 +4,13 @@ use crate::volume::{
     Size, commit_often, empty, open_often, prepare, remove_often, rewrite, snapshot_often,
     write_blocks,
 };
+use sm_disk::Disk;
 use sm_memdisk::MemDisk;
 use std::alloc::Global;
 use volume_store::{Store, VolumeFault};
 
 /// What is timed.
-#[derive(Clone, Copy, Debug, PartialEq, Eq)]
+#[derive(Clone, Copy, Debug)]
 pub enum Deed {
     /// A client's write.
     Write,
@@ -32,7 +33,7 @@ pub enum Deed {
 }
 
 /// A run of the program.
-#[derive(Clone, Copy, Debug, PartialEq, Eq)]
+#[derive(Clone, Copy)]
 pub struct Plan {
     pub deed: Deed,
     pub size: Size,
@@ -59,23 +60,27 @@ pub fn deed_of(word: &str) -> Option<Deed> {
 /// Makes the volume and does the deed. The answer is how many blocks are used, or how long the record
 /// is.
 pub fn perform(alloc: Global, plan: &Plan) -> Result<usize, VolumeFault> {
-    if plan.deed == Deed::Disk {
-        return write_often(alloc, plan.size, plan.snapshots, plan.count);
+    let mut disk = MemDisk::new(alloc, plan.size.disk_len())?;
+    if let Deed::Disk = plan.deed {
+        return write_often(alloc, &mut disk, plan.size, plan.snapshots, plan.count);
     }
-    let mut volume = empty(alloc, plan.size)?;
-    let left = perform_on(alloc, &mut volume, plan)?;
-    if plan.deed == Deed::Open {
-        return open_often(alloc, volume, plan.count);
-    }
-    Ok(left)
+    perform_on(alloc, disk, plan)
 }
 
-fn perform_on(
+fn perform_on<D: Disk + Drop>(alloc: Global, disk: D, plan: &Plan) -> Result<usize, VolumeFault> {
+    let mut volume = empty(alloc, disk, plan.size)?;
+    prepare(alloc, &mut volume, plan.size, plan.snapshots)?;
+    if let Deed::Open = plan.deed {
+        return open_often(alloc, volume, plan.count);
+    }
+    call_often(alloc, &mut volume, plan)
+}
+
+fn call_often<D: Disk>(
     alloc: Global,
-    volume: &mut Store<MemDisk>,
+    volume: &mut Store<D>,
     plan: &Plan,
 ) -> Result<usize, VolumeFault> {
-    prepare(alloc, volume, plan.size, plan.snapshots)?;
     match plan.deed {
         Deed::Write => write_blocks(volume, 0, plan.count)?,
         Deed::Commit => commit_often(alloc, volume, plan.count)?,
@@ -86,8 +91,8 @@ fn perform_on(
             remove_often(alloc, volume, plan.count)?;
         }
         Deed::Decode => return decode_often(alloc, volume, plan.count),
-        Deed::Encode | Deed::Disk => return encode_often(alloc, volume, plan.count),
-        Deed::Open => {}
+        Deed::Encode => return encode_often(alloc, volume, plan.count),
+        Deed::Open | Deed::Disk => {}
     }
     Ok(volume.used() as usize)
 }

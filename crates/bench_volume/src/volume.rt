@@ -3,12 +3,12 @@ ghost use Rattle.std.specs.Prelude.{◌≡◌, true, OnOk};
 
 use sm_base::limits::{BLOCKS_START, DISK_LENGTH, MOST_LOGICAL, MOST_PHYSICAL};
 use sm_base::{Block, Ident, Kind, NameFault, NoMemory, SnapName, VolNo};
-use sm_memdisk::MemDisk;
+use sm_disk::Disk;
 use std::alloc::Global;
 use volume_store::{Store, VolumeFault};
 
 /// How large a volume is made.
-#[derive(Clone, Copy, Debug, PartialEq, Eq)]
+#[derive(Clone, Copy)]
 pub enum Size {
     /// 4 logical and 16 physical blocks.
     Small,
@@ -35,8 +35,7 @@ impl Size {
 }
 
 /// A volume of holes.
-pub fn empty(alloc: Global, size: Size) -> Result<Store<MemDisk>, VolumeFault> {
-    let disk = MemDisk::new(alloc, size.disk_len())?;
+pub fn empty<D: Disk + Drop>(alloc: Global, disk: D, size: Size) -> Result<Store<D>, VolumeFault> {
     let made = match size {
         Size::Small => Store::create(alloc, disk, VolNo(1), Kind::Rw, 4, 16),
         Size::Large => Store::create(alloc, disk, VolNo(1), Kind::Rw, MOST_LOGICAL, MOST_PHYSICAL),
@@ -48,7 +47,7 @@ pub fn empty(alloc: Global, size: Size) -> Result<Store<MemDisk>, VolumeFault> {
 }
 
 // A fault where the volume is down.
-fn check_up(volume: &Store<MemDisk>) -> Result<(), VolumeFault>
+fn check_up<D: Disk>(volume: &Store<D>) -> Result<(), VolumeFault>
     ensures { OnOk result (volume.now.up ≡ true) }
 {
     if volume.is_up() {
@@ -58,23 +57,23 @@ fn check_up(volume: &Store<MemDisk>) -> Result<(), VolumeFault>
     }
 }
 
-fn write(volume: &mut Store<MemDisk>, at: u32, block: &Block) -> Result<(), VolumeFault> {
+fn write<D: Disk>(volume: &mut Store<D>, at: u32, block: &Block) -> Result<(), VolumeFault> {
     check_up(volume)?;
     volume.write(at, block)
 }
 
-fn settle(alloc: Global, volume: &mut Store<MemDisk>) -> Result<(), VolumeFault> {
+fn settle<D: Disk>(alloc: Global, volume: &mut Store<D>) -> Result<(), VolumeFault> {
     check_up(volume)?;
     volume.cp(alloc)
 }
 
-fn remove(alloc: Global, volume: &mut Store<MemDisk>, drops: &[Ident]) -> Result<(), VolumeFault> {
+fn remove<D: Disk>(alloc: Global, volume: &mut Store<D>, drops: &[Ident]) -> Result<(), VolumeFault> {
     check_up(volume)?;
     volume.remove(alloc, drops)
 }
 
 /// Writes so many blocks, the first at the place `from`.
-pub fn write_blocks(volume: &mut Store<MemDisk>, from: u32, count: u32) -> Result<(), VolumeFault> {
+pub fn write_blocks<D: Disk>(volume: &mut Store<D>, from: u32, count: u32) -> Result<(), VolumeFault> {
     let logical = volume.root().logical.max(1);
     let block = Block([7; 4096]);
     for k in 0..count {
@@ -84,9 +83,9 @@ pub fn write_blocks(volume: &mut Store<MemDisk>, from: u32, count: u32) -> Resul
 }
 
 // Takes the snapshot of that number.
-fn take_snapshot(
+fn take_snapshot<D: Disk>(
     alloc: Global,
-    volume: &mut Store<MemDisk>,
+    volume: &mut Store<D>,
     number: u32,
 ) -> Result<(), VolumeFault> {
     check_up(volume)?;
@@ -115,9 +114,9 @@ fn ident_of(number: u32) -> Ident {
 }
 
 /// Writes all blocks, and takes so many snapshots, between which a block is written.
-pub fn prepare(
+pub fn prepare<D: Disk>(
     alloc: Global,
-    volume: &mut Store<MemDisk>,
+    volume: &mut Store<D>,
     size: Size,
     snapshots: u32,
 ) -> Result<(), VolumeFault> {
@@ -130,15 +129,15 @@ pub fn prepare(
 }
 
 /// Writes all blocks again, so that the stable map differs from each snapshot's everywhere.
-pub fn rewrite(alloc: Global, volume: &mut Store<MemDisk>, size: Size) -> Result<(), VolumeFault> {
+pub fn rewrite<D: Disk>(alloc: Global, volume: &mut Store<D>, size: Size) -> Result<(), VolumeFault> {
     write_blocks(volume, 0, size.logical())?;
     settle(alloc, volume)
 }
 
 /// Makes consistency points, before each of which four blocks are written.
-pub fn commit_often(
+pub fn commit_often<D: Disk>(
     alloc: Global,
-    volume: &mut Store<MemDisk>,
+    volume: &mut Store<D>,
     count: u32,
 ) -> Result<(), VolumeFault> {
     for k in 0..count {
@@ -149,9 +148,9 @@ pub fn commit_often(
 }
 
 /// Takes a snapshot and removes it, time after time.
-pub fn snapshot_often(
+pub fn snapshot_often<D: Disk>(
     alloc: Global,
-    volume: &mut Store<MemDisk>,
+    volume: &mut Store<D>,
     count: u32,
 ) -> Result<(), VolumeFault> {
     for k in 0..count {
@@ -163,9 +162,9 @@ pub fn snapshot_often(
 }
 
 /// Removes no snapshot, time after time.
-pub fn remove_often(
+pub fn remove_often<D: Disk>(
     alloc: Global,
-    volume: &mut Store<MemDisk>,
+    volume: &mut Store<D>,
     count: u32,
 ) -> Result<(), VolumeFault> {
     for _ in 0..count {
@@ -175,7 +174,7 @@ pub fn remove_often(
 }
 
 /// Opens the volume on its disk, time after time. The answer is how many blocks are used.
-pub fn open_often(alloc: Global, volume: Store<MemDisk>, count: u32) -> Result<usize, VolumeFault> {
+pub fn open_often<D: Disk + Drop>(alloc: Global, volume: Store<D>, count: u32) -> Result<usize, VolumeFault> {
     let mut volume = volume;
     for _ in 0..count {
         volume = open_again(alloc, volume)?;
@@ -183,7 +182,7 @@ pub fn open_often(alloc: Global, volume: Store<MemDisk>, count: u32) -> Result<u
     Ok(volume.used() as usize)
 }
 
-fn open_again(alloc: Global, volume: Store<MemDisk>) -> Result<Store<MemDisk>, VolumeFault> {
+fn open_again<D: Disk + Drop>(alloc: Global, volume: Store<D>) -> Result<Store<D>, VolumeFault> {
     match Store::open(alloc, volume.into_disk(), VolNo(1)) {
         Ok(volume) => Ok(volume),
         Err((_, fault)) => Err(fault),
