@@ -1,10 +1,9 @@
 -- The steps of a loop that tests each element at its place, and keys that are new one after the other.
 use Rattle.std.proofs.Common.{◌≡◌, ◌↔◌, ℕ, ◌+◌, ◌<◌, ◌≤◌, Bool, true, false, List, [], ◌∷◌, length, get_or, sym, subst, ◌∙◌, inl, inr, arith}
 use Rattle.std.specs.Prelude.{IsTrue}
-use Rattle.std.specs.List.{AllByRecursion}
 use Rattle.std.proofs.lemmas.Bool.{both_ways, cases_eq}
 use Rattle.std.proofs.lemmas.List.{get_or_default}
-use Rattle.sm_defs.specs.Words.{Among, KeysDiffer}
+use Rattle.sm_defs.specs.Words.{KeysDiffer}
 use Rattle.sm_defs.proofs.Members.{each_among, among_each}
 use Rattle.sm_shape.specs.Behind.{EachPlace}
 use Rattle.sm_shape.proofs.Tests.{answered_no, answered_yes}

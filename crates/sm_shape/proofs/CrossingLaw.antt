@@ -1,5 +1,5 @@
 -- Relationships are crossed exactly where each fits behind those before it.
-use Rattle.std.proofs.Common.{◌≡◌, ◌≢◌, ℕ, zero, suc, ◌<◌, Bool, true, false, List, [], ◌∷◌, length, get_or, take, refl, sym, subst, inl, inr, arith}
+use Rattle.std.proofs.Common.{◌≡◌, ◌≢◌, ℕ, zero, suc, ◌<◌, Bool, true, List, [], ◌∷◌, length, get_or, take, refl, sym, subst, inl, inr, arith}
 use Rattle.std.specs.List.{filter, AllByRecursion}
 use Rattle.sm_defs.specs.Words.{Among, KeysDiffer}
 use Rattle.std.proofs.lemmas.Bool.{cases_Bool, both_ways}

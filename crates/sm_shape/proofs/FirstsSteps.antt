@@ -5,7 +5,6 @@ use Rattle.std.specs.Borrow.{Bor}
 use Rattle.std.specs.HashMap.{get, IsEmpty}
 use Rattle.std.proofs.lemmas.Bool.{both_ways, cases_Bool}
 use Rattle.std.proofs.lemmas.Option.{same_Some}
-use Rattle.sm_defs.specs.Words.{Among}
 use Rattle.sm_shape.specs.Firsts.{Item, Table, HasItem, IsFirstsOf, Agree, TakesItems}
 use Rattle.sm_shape.proofs.TakesSteps.{Within}
 

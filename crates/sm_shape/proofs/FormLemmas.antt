@@ -1,23 +1,19 @@
 -- The form of volumes and policies, as the definitions speak of it.
-use Rattle.std.proofs.Common.{◌≡◌, ◌↔◌, ℕ, zero, suc, ◌<◌, ◌≤◌, false, List, [], ◌∷◌, ◌++◌, length, get_or, take, map, replicate, refl, sym, ap, subst, ◌∙◌, inl, inr, arith, append-nil, append_assoc}
+use Rattle.std.proofs.Common.{◌≡◌, ◌↔◌, ℕ, zero, suc, ◌<◌, List, [], ◌∷◌, ◌++◌, length, get_or, take, replicate, refl, sym, ap, subst, ◌∙◌, inl, inr, arith, append-nil, append_assoc}
 use Rattle.std.proofs.lemmas.List.{length-map, length-replicate}
-use Rattle.std.specs.List.{flat_map, All}
-use Rattle.std.specs.Prelude.{Some, None}
 use Rattle.sm_base.specs.declared.numbers.PolicyKind.{PolicyKind}
 use Rattle.sm_base.specs.declared.numbers.PolicyKind.TheVariants.{AsyncMirror, Vault}
 use Rattle.sm_defs.specs.Words.{Among}
-use Rattle.sm_defs.specs.Image.{Block, Image, hole}
+use Rattle.sm_defs.specs.Image.{Block, Image}
 use Rattle.sm_defs.specs.Volume.{images_of}
-use Rattle.sm_defs.specs.Relationship.{Rule, Policy, rule_for}
-use Rattle.sm_defs.specs.Rules.{first_rules, is_wrong_rule, is_bad_keep}
+use Rattle.sm_defs.specs.Relationship.{Rule, Policy}
+use Rattle.sm_defs.specs.Rules.{first_rules}
 use Rattle.sm_defs.proofs.Members.{among_map, from_map, among_flat, from_flat}
-use Rattle.sm_model.specs.Standing.{Stored}
 use Rattle.sm_model.specs.Formed.{FormedSnapshot, FormedVolume, FormedRule, FormedPolicy, AreAdded}
 use Rattle.sm_model.specs.declared.world.WorldVolume.{WorldVolume}
-use Rattle.sm_model.specs.declared.world.WorldSnapshot.{WorldSnapshot}
 use Rattle.sm_shape.specs.Blank.{zeros, blank_block, blank_image, blank_snapshot, blank_volume}
 use Rattle.sm_shape.specs.Marks.{one_map, maps_of}
-use Rattle.sm_shape.specs.Forms.{SnapshotForm, SizesForm, VolumeForm, RuleAdded, AddedFrom, BeginsWith, RulesForm, PolicyForm}
+use Rattle.sm_shape.specs.Forms.{SnapshotForm, VolumeForm, RuleAdded, AddedFrom, RulesForm, PolicyForm}
 use Rattle.sm_shape.proofs.ListWords.{all_among, among_all, each_image}
 use Rattle.sm_shape.proofs.TagsLemmas.{images_are, stored_stands}
 use Rattle.sm_shape.proofs.PlacesLemmas.{hole_is}

@@ -1,9 +1,7 @@
 -- A world is formed where its volumes, policies and relationships are, each beside those before it.
-use Rattle.std.proofs.Common.{◌≡◌, ◌↔◌, ℕ, ◌<◌, ◌≤◌, List, [], ◌∷◌, length, get_or, take, map, sym, ap, subst, ◌∙◌, inl, inr, arith}
+use Rattle.std.proofs.Common.{◌≡◌, ℕ, ◌<◌, List, [], ◌∷◌, length, get_or, take, map, subst, arith}
 use Rattle.std.proofs.lemmas.List.{length-map}
-use Rattle.std.specs.List.{All}
 use Rattle.sm_defs.specs.Words.{Among, KeysDiffer}
-use Rattle.sm_defs.specs.Volume.{Volume}
 use Rattle.sm_defs.specs.Relationship.{Policy, Relationship}
 use Rattle.sm_defs.proofs.Members.{among_get_or, among_map, each_among, among_each}
 use Rattle.sm_model.specs.Formed.{Formed, FormedVolume, FormedPolicy, FormedRelation, path_of, disk_of, policy_name, NumbersAscend}
@@ -11,7 +9,7 @@ use Rattle.sm_model.specs.declared.world.World.{World}
 use Rattle.sm_model.specs.declared.world.WorldVolume.{WorldVolume}
 use Rattle.sm_shape.specs.Blank.{blank, blank_volume}
 use Rattle.sm_shape.specs.Behind.{EachBehind}
-use Rattle.sm_shape.specs.Forms.{VolumeForm, IsOther, VolumeFitsBehind, PolicyForm, IsOtherPolicy, PolicyFitsBehind, IsBefore, RelationFitsBehind, CountsForm, CountersForm}
+use Rattle.sm_shape.specs.Forms.{IsOther, VolumeFitsBehind, IsOtherPolicy, PolicyFitsBehind, IsBefore, RelationFitsBehind, CountsForm, CountersForm}
 use Rattle.sm_shape.proofs.ListWords.{all_among, among_all, among_index, each_image}
 use Rattle.sm_shape.proofs.CrossingLaw.{Apart, new_apart, apart_new}
 use Rattle.sm_shape.proofs.Behind.{keys_of_apart, apart_of_keys}

@@ -5,8 +5,8 @@ use Rattle.std.specs.Str.{bytes_eq}
 use Rattle.std.proofs.lemmas.Bool.{both_ways, not-true, not_from_false}
 use Rattle.std.specs.List.{list_any, find}
 use Rattle.sm_defs.specs.Words.{Among}
-use Rattle.sm_defs.specs.Volume.{Volume, Snapshot}
-use Rattle.sm_defs.specs.Relationship.{Relationship, Transfer, Rule, rule_for, is_mirror}
+use Rattle.sm_defs.specs.Volume.{Snapshot}
+use Rattle.sm_defs.specs.Relationship.{Relationship, Rule, rule_for, is_mirror}
 use Rattle.sm_defs.specs.World.{Up, volume_at, policy_at}
 use Rattle.sm_defs.proofs.Members.{among_map, from_map}
 use Rattle.sm_defs.proofs.Classes.{vault_has_class}

@@ -1,5 +1,5 @@
 -- The numbers from one on, by their places.
-use Rattle.std.proofs.Common.{◌≡◌, ℕ, zero, suc, ◌+◌, ◌<◌, List, [], ◌∷◌, length, get_or, refl, sym, ap, ap₂, ◌∙◌, arith}
+use Rattle.std.proofs.Common.{◌≡◌, ℕ, zero, suc, ◌+◌, ◌<◌, List, [], ◌∷◌, length, get_or, refl, ap, ap₂, arith}
 use Rattle.sm_defs.specs.Volume.{numbers}
 
 pub long_numbers : (n t : ℕ) → length (numbers t n) ≡ n

@@ -1,9 +1,7 @@
 -- How a transfer begins, as the definitions speak of it.
 use Rattle.std.proofs.Common.{◌≡◌, ◌↔◌, ◌-◌, false, List, [], ◌∷◌, length, take, drop, map, refl, sym, ap, subst, ◌∙◌, arith}
 use Rattle.std.proofs.lemmas.List.{take_all}
-use Rattle.std.specs.Prelude.{None}
 use Rattle.sm_base.specs.declared.numbers.Kind.{Kind}
-use Rattle.sm_base.specs.declared.numbers.Kind.TheVariants.{Rw}
 use Rattle.sm_base.specs.declared.numbers.Ident.{Ident}
 use Rattle.sm_defs.specs.Words.{Among}
 use Rattle.sm_defs.specs.Volume.{Volume, Snapshot, has}
@@ -12,7 +10,7 @@ use Rattle.sm_defs.proofs.Members.{among_map, from_map}
 use Rattle.sm_model.specs.TransfersStand.{later, IsFirst, TransferStands}
 use Rattle.sm_model.specs.declared.world.WorldSnapshot.{WorldSnapshot}
 use Rattle.sm_shape.specs.Blank.{blank_snapshot}
-use Rattle.sm_shape.specs.Standing.{Lacks, BeginsAnew, IsFirstOf, FirstTime, StandsWith, OwnStandsWith}
+use Rattle.sm_shape.specs.Standing.{Lacks, IsFirstOf, StandsWith}
 use Rattle.sm_shape.proofs.ListWords.{all_among, among_all}
 
 pub rest_later : (is : List Ident) → take (length is - 1) (drop 1 is) ≡ later is

@@ -1,12 +1,11 @@
 -- The form of a world of maps.
-use Rattle.std.specs.Prelude.{◌≡◌, ◌≢◌, ℕ, suc, ◌≤◌, ◌<◌, ◌^◌, true, false, List, [], ◌∷◌, ◌++◌, length, take, Some, None}
+use Rattle.std.specs.Prelude.{◌≡◌, ℕ, ◌≤◌, ◌<◌, ◌^◌, true, false, List, [], ◌∷◌, ◌++◌, length, take, Some, None}
 use Rattle.std.specs.List.{All}
 use Rattle.sm_base.specs.Name.{is_path, is_part}
 use Rattle.sm_base.specs.declared.numbers.PolicyKind.{PolicyKind}
 use Rattle.sm_base.specs.declared.numbers.PolicyKind.TheVariants.{AsyncMirror, Vault}
 use Rattle.sm_base.specs.declared.numbers.Ident.{Ident}
 use Rattle.sm_base.specs.declared.limits.TheConstants.{MOST_VOLUMES, MOST_POLICIES, MOST_RELATIONS, MOST_SNAPSHOTS, MOST_RULES, MOST_LOGICAL, MOST_PHYSICAL, LAST_NUMBER, LAST_RELATION, LAST_SECOND}
-use Rattle.sm_defs.specs.Volume.{numbers}
 use Rattle.sm_defs.specs.Legs.{made_ident}
 use Rattle.sm_defs.specs.Relationship.{Rule, Policy, Relationship, Transfer, rule_for}
 use Rattle.sm_defs.specs.Rules.{first_rules, is_wrong_rule, is_bad_keep}

@@ -1,5 +1,5 @@
 -- How a transfer begins, by what its destination shows.
-use Rattle.std.specs.Prelude.{◌≡◌, ◌≢◌, true, false, List, [], map, Some, None}
+use Rattle.std.specs.Prelude.{◌≡◌, ◌≢◌, false, List, [], map, Some, None}
 use Rattle.std.specs.List.{All}
 use Rattle.sm_base.specs.declared.numbers.Ident.{Ident}
 use Rattle.sm_base.specs.declared.numbers.Kind.{Kind}

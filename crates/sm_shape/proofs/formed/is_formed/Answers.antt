@@ -1,4 +1,4 @@
-use Rattle.sm_shape.proofs.Tests.{first_fails, both_hold}
+use Rattle.sm_shape.proofs.Tests.{first_fails}
 use Rattle.sm_shape.proofs.FormedLaw.{formed_of, counts_of, counters_of, volumes_of, policies_of, relations_of}
 use Rattle.sm_shape.proofs.formed.is_formed.Goals as goal
 

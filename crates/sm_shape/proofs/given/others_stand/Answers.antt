@@ -1,5 +1,3 @@
-use Rattle.std.proofs.Common.{ℕ}
-use Rattle.sm_model.specs.declared.world.WorldVolume.{WorldVolume}
 use Rattle.sm_shape.specs.Given.{OtherStands}
 use Rattle.sm_shape.proofs.Behind.{place_stops, place_goes, place_ends}
 use Rattle.sm_shape.proofs.given.others_stand.Goals as goal

@@ -1,8 +1,8 @@
-use Rattle.std.proofs.Common.{◌≡◌, false, true, not, map, sym, ap, ◌∙◌}
+use Rattle.std.proofs.Common.{◌≡◌, false, true, sym, ap, ◌∙◌}
 use Rattle.std.proofs.lemmas.Bool.{both_ways, not-false, not-true}
 use Rattle.sm_defs.specs.Relationship.{Relationship, is_mirror}
-use Rattle.sm_defs.specs.World.{policy_at, volume_at}
-use Rattle.sm_shape.specs.Blank.{blank, blank_snapshot, having}
+use Rattle.sm_defs.specs.World.{policy_at}
+use Rattle.sm_shape.specs.Blank.{blank}
 use Rattle.sm_shape.proofs.Tests.{and_so, answered_yes}
 use Rattle.sm_shape.proofs.KeptLemmas.{kept_by_rules}
 use Rattle.sm_shape.proofs.kept.keeps_legs.Goals as goal

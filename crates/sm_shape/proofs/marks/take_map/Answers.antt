@@ -1,4 +1,4 @@
-use Rattle.std.proofs.Common.{◌≡◌, true, false, take, get_or, refl}
+use Rattle.std.proofs.Common.{◌≡◌, true, false, take, get_or}
 use Rattle.std.proofs.lemmas.List.{take_all}
 use Rattle.sm_shape.specs.Marks.{free_at, with_number}
 use Rattle.sm_shape.proofs.MarkSteps.{before_any, goes_on, clashes}

@@ -1,6 +1,6 @@
-use Rattle.std.proofs.Common.{◌∷◌, ◌++◌, [], true, false}
+use Rattle.std.proofs.Common.{◌∷◌, [], false}
 use Rattle.std.specs.List.{flat_map}
-use Rattle.sm_shape.specs.Marks.{IsTableOf, AtOnePlace, TakesMaps, one_map}
+use Rattle.sm_shape.specs.Marks.{IsTableOf, AtOnePlace, one_map}
 use Rattle.sm_shape.proofs.Tables.{table_same, one_within}
 use Rattle.sm_shape.proofs.TakesSteps.{takes_then, takes_fail}
 use Rattle.sm_shape.proofs.marks.take_volume.Goals as goal

@@ -1,4 +1,4 @@
-use Rattle.std.proofs.Common.{◌≡◌, map, sym, ap, ◌∙◌}
+use Rattle.std.proofs.Common.{map, sym, ap, ◌∙◌}
 use Rattle.sm_defs.specs.Volume.{Volume, no_volume}
 use Rattle.sm_model.specs.declared.world.WorldVolume.{WorldVolume}
 use Rattle.sm_shape.specs.Blank.{blank_snapshot, blank_volume}
