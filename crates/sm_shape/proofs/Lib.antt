@@ -1,0 +1,26 @@
+pub mod ListWords
+pub mod Tests
+pub mod Each
+pub mod TakesSteps
+pub mod CopiesLemmas
+mod FirstsSteps
+pub mod MarkSteps
+pub mod Tables
+pub mod TagsLemmas
+pub mod FamiliesLemmas
+pub mod PlacesLemmas
+pub mod CrossingLaw
+pub mod RulesLemmas
+pub mod CrossedLaw
+pub mod BasesLemmas
+pub mod NumbersLemmas
+pub mod UnmadeLemmas
+pub mod Idents
+pub mod KeptLemmas
+pub mod StandingLemmas
+pub mod Behind
+pub mod FormLemmas
+pub mod FormedLaw
+pub mod Prefix
+pub mod GivenLemmas
+pub mod ShapeLaw
