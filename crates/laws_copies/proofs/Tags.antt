@@ -9,7 +9,8 @@ use Rattle.sm_defs.specs.Image.{Block, Image, tags, tag_of, stands, full_block}
 use Rattle.sm_defs.specs.Volume.{Volume, Snapshot, ident_of, image_of, images_of, tags_of, free_tags, numbers}
 use Rattle.sm_model.specs.Standing.{Stored}
 use Rattle.sm_model.specs.TagsFit.{TagsFitIn}
-use Rattle.sm_defs.specs.Operations.{first_of, with_snapshot}
+use Rattle.sm_defs.specs.Operations.{with_snapshot}
+use Rattle.sm_defs.specs.Missing.{first_number}
 use Rattle.sm_model.specs.OfVolumes.{written}
 use Rattle.sm_defs.specs.Thinned.{Thinned}
 use Rattle.sm_defs.specs.Operations as operations
@@ -91,13 +92,13 @@ stands_tag (c ∷ cs) (suc p) b e = or_right _ _ (stands_tag cs p b e)
 pub stored_stands : (v : Volume) (p : ℕ) (b : Block) → Stored v p b → stands b.tag (tags_of v) ≡ true
 stored_stands v p b (image, m, e) = any_flat (λ u. u == b.tag) tags (images_of v) image m (stands_tag image p b e)
 
-first_go : (p : ℕ → Bool) (x : ℕ) (xs : List ℕ) (b : Bool) → p x ≡ b → first_of (cond b (x ∷ filter p xs) (filter p xs)) ≢ 0 →
-    (first_of (filter p xs) ≢ 0 → (p (first_of (filter p xs)) ≡ true) × Among xs (first_of (filter p xs))) →
-    (p (first_of (cond b (x ∷ filter p xs) (filter p xs))) ≡ true) × Among (x ∷ xs) (first_of (cond b (x ∷ filter p xs) (filter p xs)))
+first_go : (p : ℕ → Bool) (x : ℕ) (xs : List ℕ) (b : Bool) → p x ≡ b → first_number (cond b (x ∷ filter p xs) (filter p xs)) ≢ 0 →
+    (first_number (filter p xs) ≢ 0 → (p (first_number (filter p xs)) ≡ true) × Among xs (first_number (filter p xs))) →
+    (p (first_number (cond b (x ∷ filter p xs) (filter p xs))) ≡ true) × Among (x ∷ xs) (first_number (cond b (x ∷ filter p xs) (filter p xs)))
 first_go p x xs true e n ih = (e, inl refl)
 first_go p x xs false e n ih = let q = ih n in (q.0, inr q.1)
 
-first_passes : (p : ℕ → Bool) (xs : List ℕ) → first_of (filter p xs) ≢ 0 → (p (first_of (filter p xs)) ≡ true) × Among xs (first_of (filter p xs))
+first_passes : (p : ℕ → Bool) (xs : List ℕ) → first_number (filter p xs) ≢ 0 → (p (first_number (filter p xs)) ≡ true) × Among xs (first_number (filter p xs))
 first_passes p [] n = absurd (n refl)
 first_passes p (x ∷ xs) n = first_go p x xs (p x) refl n (first_passes p xs)
 
@@ -105,15 +106,15 @@ zero_or : (n : ℕ) → (n ≡ 0) ⊎ (n ≢ 0)
 zero_or zero = inl refl
 zero_or (suc n) = inr (λ e. omega arith)
 
-pub fresh_tag : (v : Volume) (p : ℕ) (b : Block) → first_of (free_tags v) ≢ 0 → Stored v p b → b.tag ≢ first_of (free_tags v)
+pub fresh_tag : (v : Volume) (p : ℕ) (b : Block) → first_number (free_tags v) ≢ 0 → Stored v p b → b.tag ≢ first_number (free_tags v)
 fresh_tag v p b n s e =
     let q = first_passes (λ t. not (stands t (tags_of v))) (numbers 1 v.physical) n in
-    both_ways (stands (first_of (free_tags v)) (tags_of v)) (not-true _ q.0) (subst (λ t. stands t (tags_of v) ≡ true) e (stored_stands v p b s))
+    both_ways (stands (first_number (free_tags v)) (tags_of v)) (not-true _ q.0) (subst (λ t. stands t (tags_of v) ≡ true) e (stored_stands v p b s))
 
-pub free_in_range : (v : Volume) → first_of (free_tags v) ≤ v.physical
-free_in_range v = go (zero_or (first_of (free_tags v)))
+pub free_in_range : (v : Volume) → first_number (free_tags v) ≤ v.physical
+free_in_range v = go (zero_or (first_number (free_tags v)))
   where
-    go : (first_of (free_tags v) ≡ 0) ⊎ (first_of (free_tags v) ≢ 0) → first_of (free_tags v) ≤ v.physical
+    go : (first_number (free_tags v) ≡ 0) ⊎ (first_number (free_tags v) ≢ 0) → first_number (free_tags v) ≤ v.physical
     go (inl e) = rw e zero-le
     go (inr n) = let h = below_numbers v.physical 1 _ (first_passes (λ t. not (stands t (tags_of v))) (numbers 1 v.physical) n).1 in omega arith
 
@@ -144,19 +145,19 @@ unfolding full_block
 tag_of_full t fill = refl
 
 -- the new block, or one that was there
-pub written_stored : (v : Volume) (block fill : ℕ) → StoredOr v (written v block fill) block (full_block (first_of (free_tags v)) fill)
+pub written_stored : (v : Volume) (block fill : ℕ) → StoredOr v (written v block fill) block (full_block (first_number (free_tags v)) fill)
 written_stored v block fill = go
   where
-    at : (image : Image) (p : ℕ) (b : Block) → ((p ≡ block) × (b ≡ full_block (first_of (free_tags v)) fill)) ⊎ (slice_get v.active p ≡ Some b) →
-        ((p ≡ block) × (b ≡ full_block (first_of (free_tags v)) fill)) ⊎ Stored v p b
+    at : (image : Image) (p : ℕ) (b : Block) → ((p ≡ block) × (b ≡ full_block (first_number (free_tags v)) fill)) ⊎ (slice_get v.active p ≡ Some b) →
+        ((p ≡ block) × (b ≡ full_block (first_number (free_tags v)) fill)) ⊎ Stored v p b
     at image p b (inl e) = inl e
     at image p b (inr e) = inr (v.active, inl refl, e)
 
-    go : StoredOr v (written v block fill) block (full_block (first_of (free_tags v)) fill)
+    go : StoredOr v (written v block fill) block (full_block (first_number (free_tags v)) fill)
     go p b (image, inl m, e) = at image p b (get_set v.active block _ p b (subst (λ x. slice_get x p ≡ Some b) m e))
     go p b (image, inr m, e) = inr (image, inr m, e)
 
 pub written_fits : (v : Volume) (block fill : ℕ) → TagsFitIn v → TagsFitIn (written v block fill)
 written_fits v block fill f =
-    let t = first_of (free_tags v) in let e : (full_block t fill).tag ≡ t = tag_of_full t fill in
+    let t = first_number (free_tags v) in let e : (full_block t fill).tag ≡ t = tag_of_full t fill in
     fits_fresh v (written v block fill) block (full_block t fill) (written_stored v block fill) (λ n p b s. rw e (fresh_tag v p b (subst (λ x. x ≢ 0) e n) s)) (rw e (free_in_range v)) refl f.idents_differ f

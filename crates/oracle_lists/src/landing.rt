@@ -39,7 +39,8 @@ fn moved(alloc: Global, block: &PlainBlock, number: u32) -> Result<PlainBlock, N
     })
 }
 
-fn first_number(numbers: &[u32]) -> u32
+/// The first of a list of numbers, or 0 of none.
+pub fn first_number(numbers: &[u32]) -> u32
     ensures { result ≡ first_number numbers.now }
 {
     match numbers {

@@ -16,7 +16,7 @@ mod values;
 
 pub use dropping::{common, is_pruned, pruned, sends_all};
 pub use keeping::{keep_reached, retained};
-pub use landing::{hole, vault_landing};
+pub use landing::{first_number, hole, vault_landing};
 pub use lists::{has_copy, has_rule_for, is_among, is_same, same_text, with_first};
 pub use missing::{mirror_cost, missing_places, missing_tags, vault_cost};
 pub use numbers::{landed_prefix, numbers_below, stands};

@@ -14,7 +14,7 @@ ghost use Rattle.sm_defs.specs.Volume.{length_needed};
 use crate::pieces::{
     full_block, is_writable, new_image, place_of, refuse_name, refuse_path, volume,
 };
-use oracle_lists::{PlainBlock, PlainSnapshot, copy_image, hole, is_same, same_text};
+use oracle_lists::{PlainBlock, PlainSnapshot, copy_image, first_number, hole, is_same, same_text};
 use oracle_world::{
     PlainFault, PlainNumber, PlainVolume, PlainWorld, free_tags, holder, small, snapshots_at, used,
 };
@@ -141,15 +141,6 @@ pub fn create_volume(
     })
 }
 
-fn first_of(tags: &[u32]) -> u32
-    ensures { result ≡ operations.first_of tags.now }
-{
-    match tags {
-        [] => 0,
-        [tag, ..] => *tag,
-    }
-}
-
 fn is_full(alloc: Global, world: &PlainWorld, at: usize) -> Result<bool, NoMemory>
     requires { at < length world.now.volumes }
     ensures { IfOk result (λ full. full ≡ (used (volume_at world.now at) == (volume_at world.now at).physical)) }
@@ -177,7 +168,7 @@ fn put_block(alloc: Global, volume: &mut PlainVolume, place: u64, fill: u8) -> R
     ensures ok { OnOk result (volume.new ≡ model.written volume.old place fill) }
     ensures err { OnErr result (volume.new ≡ volume.old) }
 {
-    let tag = first_of(&free_tags(alloc, volume)?);
+    let tag = first_number(&free_tags(alloc, volume)?);
     let block = full_block(alloc, tag, fill)?;
     put_at(&mut volume.active, place, block);
     Ok(())
