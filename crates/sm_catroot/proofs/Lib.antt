@@ -1,0 +1,12 @@
+mod PartsSpelled
+mod PathSpelled
+mod PolicySpelled
+mod TransferSpelled
+mod Differ
+mod CatalogSpelled
+mod CatalogFits
+mod Lengths
+mod Decoded
+mod Few
+mod Added
+mod Slotted

@@ -1,0 +1,5 @@
+pub mod Catalog
+pub mod Layout
+pub mod Spelling
+pub mod Condition
+pub mod Kept
