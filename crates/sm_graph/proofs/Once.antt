@@ -1,5 +1,5 @@
 -- Volumes that stand once in a list.
-use Rattle.std.proofs.Common.{◌≡◌, ◌==◌, ℕ, false, List, [], ◌∷◌, ◌++◌}
+use Rattle.std.proofs.Common.{◌≡◌, ◌==◌, false, List, [], ◌∷◌, ◌++◌}
 use Rattle.std.proofs.lemmas.Bool.{both_ways, eq-eqb}
 use Rattle.std.specs.List.{list_any}
 use Rattle.sm_base.specs.declared.numbers.VolNo.{VolNo}
