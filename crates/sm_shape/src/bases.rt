@@ -88,7 +88,8 @@ fn all_at_base(volumes: &[WorldVolume], relations: &[WorldRelation]) -> bool
         .all(|relation| stands_at_base(volumes, relation))
 }
 
-/// Whether each destination stands where it should.
+/// Whether each read-only volume is blank or stands at one of its snapshots, and a destination with a base at
+/// what was published last.
 pub fn destinations_stand(world: &World) -> bool
     ensures { IsTrue result ↔ DestinationsStand (blank world.now) }
 {

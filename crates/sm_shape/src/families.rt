@@ -79,7 +79,8 @@ fn take_all<'a>(
     Ok(true)
 }
 
-/// Whether copies of one identity in one family have the same numbers.
+/// Whether copies of one identity in one family have the same numbers. `NoMemory` where a table of the
+/// identities finds no room.
 pub fn families_agree(alloc: Global, world: &World) -> Result<bool, NoMemory>
     ensures { IfOk result (λ agree. IsTrue agree ↔ FamiliesAgree (blank world.now)) }
 {

@@ -60,7 +60,9 @@ fn first_of(
     Ok(None)
 }
 
-/// The place of the first relationship that breaks a rule, if there is one.
+/// The place, from 0, of the first relationship that breaks a rule on its volumes, its policy, its transfer or
+/// the relationships before it; none where all relationships fit. `NoMemory` where the legs of a transfer find
+/// no room to be told apart.
 pub fn first_crossing(alloc: Global, world: &World) -> Result<Option<usize>, NoMemory>
     ensures { IfOk result (λ found. MatchOption found (Crossed (blank world.now)) (IsFirstCrossing (blank world.now))) }
 {

@@ -37,7 +37,8 @@ fn volumes_fit(alloc: Global, volumes: &[WorldVolume]) -> Result<bool, NoMemory>
     Ok(true)
 }
 
-/// The same of the world.
+/// Whether in each volume a number but 0 stands at one place, none passes the physical size, and no identity
+/// comes twice. `NoMemory` where a volume's table of numbers or a set of identities finds no room.
 pub fn tags_fit(alloc: Global, world: &World) -> Result<bool, NoMemory>
     ensures { IfOk result (λ fit. IsTrue fit ↔ TagsFit (blank world.now)) }
 {

@@ -105,7 +105,8 @@ pub fn all_unmade(volumes: &[WorldVolume], relations: &[WorldRelation]) -> bool
         .all(|relation| is_unmade(volumes, relation))
 }
 
-/// Whether identities are of numbers that were given.
+/// Whether identities are of numbers that were given, and a leg that is still to be made is on no volume.
+/// `NoMemory` where the name of a transfer's snapshot finds no room.
 pub fn numbers_stand(alloc: Global, world: &World) -> Result<bool, NoMemory>
     ensures { IfOk result (λ stand. IsTrue stand ↔ NumbersStand (blank world.now)) }
 {
