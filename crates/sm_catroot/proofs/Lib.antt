@@ -6,7 +6,7 @@ mod Differ
 mod CatalogSpelled
 mod CatalogFits
 mod Lengths
-mod Decoded
+pub mod Decoded
 mod Few
 mod Added
 mod Slotted

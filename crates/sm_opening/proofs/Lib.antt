@@ -1,0 +1,2 @@
+mod RecordsOnce
+mod Once

@@ -1,0 +1,6 @@
+//! Opening a node: which world its disks spell, or the first fault of them.
+#![tactic(auto)]
+
+mod laws;
+
+pub use laws::{a_fault_is_named_once, a_world_has_no_fault, a_world_is_spelled_once};
