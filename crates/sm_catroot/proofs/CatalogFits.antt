@@ -244,7 +244,7 @@ numbers_again : (rs : List Relation) → map number_of (map relation_again rs) �
 numbers_again [] = refl
 numbers_again (r ∷ rs) = ap (λ (ns : List ℕ). r.number.0 ∷ ns) (numbers_again rs)
 
-length_again : (rs : List Relation) → length (map relation_again rs) ≡ length rs
+pub length_again : (rs : List Relation) → length (map relation_again rs) ≡ length rs
 length_again [] = refl
 length_again (r ∷ rs) = ap suc (length_again rs)
 

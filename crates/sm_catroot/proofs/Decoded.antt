@@ -20,7 +20,7 @@ use Rattle.sm_catroot.specs.Condition.{IsCatalog, transfer_again, relation_again
 use Rattle.sm_catroot.specs.Layout.{catalog_record}
 use Rattle.sm_catroot.specs.Spelling.{numbers_digits, numbers_of, volumes_bytes, policies_bytes, relations_bytes, relation_head_digits, relation_head_of, relation_digits, transfer_digits, body_bytes, spelling}
 use Rattle.sm_catroot.proofs.CatalogSpelled.{record_only, record_again}
-use Rattle.sm_catroot.proofs.CatalogFits.{catalog_of, fits_again}
+use Rattle.sm_catroot.proofs.CatalogFits.{catalog_of, fits_again, length_again}
 use Rattle.sm_catroot.proofs.Lengths.{spelling_short}
 
 -- ---- whether a transfer runs is not spelled
@@ -34,10 +34,6 @@ same_relation : (r : Relation) → relation_digits (relation_again r) ≡ relati
 unfolding relation_digits
 same_relation r = ap (λ (x : List ℕ). relation_head_digits (relation_head_of r) ++ (option_digits identity_digits r.base ++ x)) (same_transfer r.transfer)
 
-same_length : (rs : List Relation) → length (map relation_again rs) ≡ length rs
-same_length [] = refl
-same_length (r ∷ rs) = omega (arith, same_length rs)
-
 same_each : (rs : List Relation) → flat_map relation_digits (map relation_again rs) ≡ flat_map relation_digits rs
 same_each [] = refl
 same_each (r ∷ rs) =
@@ -45,7 +41,7 @@ same_each (r ∷ rs) =
 
 same_relations : (rs : List Relation) → relations_bytes (map relation_again rs) ≡ relations_bytes rs
 unfolding relations_bytes
-same_relations rs = rw (same_length rs, same_each rs) refl
+same_relations rs = rw (length_again rs, same_each rs) refl
 
 same_body : (k : Catalog) → body_bytes (again k) ≡ body_bytes k
 unfolding body_bytes

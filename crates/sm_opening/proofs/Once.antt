@@ -1,6 +1,7 @@
 -- Disks spell one world or have one first fault, and never both.
 use Rattle.std.proofs.Common.{◌≡◌, ◌≢◌, inl, inr, ℕ, suc, ◌+◌, ◌<◌, ◌≤◌, List, [], ◌∷◌, ◌++◌, Option, Some, None, slice_get, refl, sym, ap, ◌∙◌, subst, arith}
 use Rattle.std.proofs.lemmas.Bool.{cases_order}
+use Rattle.std.proofs.lemmas.Option.{same_Some, none-some}
 use Rattle.sm_base.specs.declared.limits.TheConstants.{SLOTS_END}
 use Rattle.sm_defs.specs.World.{Up}
 use Rattle.sm_defs.specs.Words.{Among}
@@ -16,18 +17,6 @@ use Rattle.sm_opening.specs.Blanked.{blanked}
 use Rattle.sm_opening.specs.OnDisk.{Disks, AreBytes, Damage, damage, record_start, image_at, world_of, IsCatalogOn, IsCatalogFault, IsCatalogDamage, LiesOn, LiesNowhere, IsVolumeOn, IsRootDamage, IsRecordDamage, IsDiskDamage, IsVolumeDamage, AreVolumesOn, IsFirstDamage, relation_start, IsShaped, IsReadWorld, Spells, IsWholeDamage, IsDamage}
 use Rattle.sm_opening.proofs.RecordsOnce.{one_catalog, catalog_apart, one_break, one_root, root_apart, one_no_root}
 
-one_given : {A : Type 0} (o : Option A) (x y : A) → o ≡ Some x → o ≡ Some y → x ≡ y
-one_given {A} o x y e f = same (sym e ∙ f)
-  where
-    some : A → Option A
-    some z = Some z
-
-    same : some x ≡ some y → x ≡ y
-    same g = cc
-
-given_or_none : {A : Type 0} (o : Option A) (x : A) → o ≡ Some x → o ≡ None → ⊥
-given_or_none o x e f = let g : Some x ≡ None = sym e ∙ f in cc
-
 over : (a b : ℕ) → a < b → b ≤ a → ⊥
 over a b less more = omega (arith, less, more)
 
@@ -41,11 +30,11 @@ module _ (d : Disks) where
 
   nowhere : (before : List Placed) (p : Placed) (size : ℕ) → LiesOn d before p size → LiesNowhere d before p → ⊥
   nowhere before p size on (inl first) = on.behind first
-  nowhere before p size on (inr (inl none)) = given_or_none (slice_get d.sizes p.disk.0) size on.is_disk none
+  nowhere before p size on (inr (inl none)) = none-some size (sym none ∙ on.is_disk)
   nowhere before p size on (inr (inr (q, m, same))) = on.alone q m same
 
   the_size : (before : List Placed) (p : Placed) (a b : ℕ) → LiesOn d before p a → LiesOn d before p b → a ≡ b
-  the_size before p a b x y = one_given (slice_get d.sizes p.disk.0) a b x.is_disk y.is_disk
+  the_size before p a b x y = same_Some a b (sym x.is_disk ∙ y.is_disk)
 
   the_root : (before : List Placed) (i : ℕ) (p : Placed) (r s : Root) → IsVolumeOn d before i p r → IsVolumeOn d before i p s → r ≡ s
   the_root before i p r s a b = one_root (image_at d p) r s a.root b.root
@@ -75,9 +64,9 @@ module _ (d : Disks) where
 
   module _ (small : AreBytes d) where
     catalog_fault_apart : (k : Catalog) (f : Damage) → IsCatalogOn d k → IsCatalogDamage d f → ⊥
-    catalog_fault_apart k f on (inl (none, e)) = given_or_none (slice_get d.sizes 0) on.size on.is_disk none
+    catalog_fault_apart k f on (inl (none, e)) = none-some on.size (sym none ∙ on.is_disk)
     catalog_fault_apart k f on (inr (size, is, inl (less, e))) =
-        over size SLOTS_END less (subst (λ (n : ℕ). SLOTS_END ≤ n) (one_given (slice_get d.sizes 0) on.size size on.is_disk is) on.room)
+        over size SLOTS_END less (subst (λ (n : ℕ). SLOTS_END ≤ n) (same_Some on.size size (sym on.is_disk ∙ is)) on.room)
     catalog_fault_apart k f on (inr (size, is, inr (room, from, none, e))) = catalog_apart (d.images 0) (small 0) k from on.shown none
 
     one_catalog_fault : (size : ℕ) (f g : Damage) → IsCatalogFault d size f → IsCatalogFault d size g → f ≡ g
@@ -89,10 +78,10 @@ module _ (d : Disks) where
 
     one_catalog_damage : (f g : Damage) → IsCatalogDamage d f → IsCatalogDamage d g → f ≡ g
     one_catalog_damage f g (inl (none, e)) (inl (also, h)) = e ∙ sym h
-    one_catalog_damage f g (inl (none, e)) (inr (size, is, fault)) = absurd (given_or_none (slice_get d.sizes 0) size is none)
-    one_catalog_damage f g (inr (size, is, fault)) (inl (none, h)) = absurd (given_or_none (slice_get d.sizes 0) size is none)
+    one_catalog_damage f g (inl (none, e)) (inr (size, is, fault)) = absurd (none-some size (sym none ∙ is))
+    one_catalog_damage f g (inr (size, is, fault)) (inl (none, h)) = absurd (none-some size (sym none ∙ is))
     one_catalog_damage f g (inr (size, is, fault)) (inr (n, here, other)) =
-        one_catalog_fault n f g (subst (λ (m : ℕ). IsCatalogFault d m f) (one_given (slice_get d.sizes 0) size n is here) fault) other
+        one_catalog_fault n f g (subst (λ (m : ℕ). IsCatalogFault d m f) (same_Some size n (sym is ∙ here)) fault) other
 
     volume_fault_apart : (before : List Placed) (i : ℕ) (p : Placed) (r : Root) (f : Damage) → IsVolumeOn d before i p r → IsVolumeDamage d before i p f → ⊥
     volume_fault_apart before i p r f on (inl (bars, e)) = nowhere before p on.size on.lies bars

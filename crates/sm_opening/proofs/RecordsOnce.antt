@@ -21,6 +21,7 @@ use Rattle.sm_catroot.specs.Layout.{catalog_record}
 use Rattle.sm_catroot.specs.Spelling.{spelling}
 use Rattle.sm_catroot.specs.Kept.{ShowsCatalog, BreaksCatalog}
 use Rattle.sm_catroot.proofs.Decoded.{one_value, written_is_read}
+use Rattle.volume_store.proofs.RootRead.{record_same}
 use Rattle.volume_store.specs.Opened.{DiffersFirst, IsRootOn, IsNoRootOn}
 
 -- ---- bytes
@@ -99,34 +100,32 @@ one_break c small a b = broken_once (stored c) (are_bytes c small) (part c (slot
 
 -- ---- a root
 
-same_bytes : (xs ys : List ℕ) (s : Stored) → s ≡ Record xs → s ≡ Record ys → xs ≡ ys
-same_bytes xs ys s e f = same (sym e ∙ f)
-  where
-    same : Record xs ≡ Record ys → xs ≡ ys
-    same g = cc
-
 pub one_root : (c : Image) (r s : Root) → IsRootOn c r → IsRootOn c s → r ≡ s
-one_root c r s a b = round.one_value r s a.good b.good (same_bytes (roots.spelling r) (roots.spelling s) (stored c) a.spelled b.spelled)
+one_root c r s a b = round.one_value r s a.good b.good (record_same (roots.spelling r) (roots.spelling s) (stored c) a.spelled b.spelled)
 
-not_blank : (xs : List ℕ) (s : Stored) → s ≡ Blank → s ≡ Record xs → ⊥
-not_blank xs s e f = let g : Blank ≡ Record xs = sym e ∙ f in cc
+-- one slot does not spell two things
+not_both : (s x y : Stored) → (x ≡ y → ⊥) → s ≡ x → s ≡ y → ⊥
+not_both s x y apart e f = apart (sym e ∙ f)
 
-not_long : (xs : List ℕ) (s : Stored) → s ≡ BadLength → s ≡ Record xs → ⊥
-not_long xs s e f = let g : BadLength ≡ Record xs = sym e ∙ f in cc
+blank_record : (xs : List ℕ) → Blank ≡ Record xs → ⊥
+blank_record xs e = cc
 
-blank_or_long : (s : Stored) → s ≡ Blank → s ≡ BadLength → ⊥
-blank_or_long s e f = let g : Blank ≡ BadLength = sym e ∙ f in cc
+long_record : (xs : List ℕ) → BadLength ≡ Record xs → ⊥
+long_record xs e = cc
+
+blank_long : Blank ≡ BadLength → ⊥
+blank_long e = cc
 
 module _ (c : Image) (small : HoldsBytes c) where
   stops : (bytes : List ℕ) (at : ℕ) → stored c ≡ Record bytes → FirstFault (root_record (length bytes)) bytes at → whole (root_record (length bytes)) bytes ≡ Err at
   stops bytes at is fault = whole_stops (root_record (length bytes)) bytes at (are_bytes c small bytes is) fault
 
   pub root_apart : (r : Root) (at : ℕ) → IsRootOn c r → IsNoRootOn c at → ⊥
-  root_apart r at on (inl blank) = not_blank (roots.spelling r) (stored c) blank.0 on.spelled
-  root_apart r at on (inr (inl long)) = not_long (roots.spelling r) (stored c) long.0 on.spelled
+  root_apart r at on (inl blank) = not_both (stored c) Blank (Record (roots.spelling r)) (blank_record (roots.spelling r)) blank.0 on.spelled
+  root_apart r at on (inr (inl long)) = not_both (stored c) BadLength (Record (roots.spelling r)) (long_record (roots.spelling r)) long.0 on.spelled
   root_apart r at on (inr (inr (bytes, is, fault))) =
       no_both (whole (root_record (length bytes)) bytes) r at
-      (subst (λ (x : List ℕ). whole (root_record (length x)) x ≡ Ok r) (same_bytes (roots.spelling r) bytes (stored c) on.spelled is) (round.written_is_read r on.good))
+      (subst (λ (x : List ℕ). whole (root_record (length x)) x ≡ Ok r) (record_same (roots.spelling r) bytes (stored c) on.spelled is) (round.written_is_read r on.good))
       (stops bytes at is fault)
 
   first_differs : (a b : ℕ) → DiffersFirst (part c (slot_start (slot_of c)) 8) a → DiffersFirst (part c (slot_start (slot_of c)) 8) b → a ≡ b
@@ -138,14 +137,14 @@ module _ (c : Image) (small : HoldsBytes c) where
 
   pub one_no_root : (a b : ℕ) → IsNoRootOn c a → IsNoRootOn c b → a ≡ b
   one_no_root a b (inl p) (inl q) = p.1 ∙ sym q.1
-  one_no_root a b (inl p) (inr (inl q)) = absurd (blank_or_long (stored c) p.0 q.0)
-  one_no_root a b (inl p) (inr (inr (ys, q, g))) = absurd (not_blank ys (stored c) p.0 q)
-  one_no_root a b (inr (inl p)) (inl q) = absurd (blank_or_long (stored c) q.0 p.0)
+  one_no_root a b (inl p) (inr (inl q)) = absurd (not_both (stored c) Blank BadLength blank_long p.0 q.0)
+  one_no_root a b (inl p) (inr (inr (ys, q, g))) = absurd (not_both (stored c) Blank (Record ys) (blank_record ys) p.0 q)
+  one_no_root a b (inr (inl p)) (inl q) = absurd (not_both (stored c) Blank BadLength blank_long q.0 p.0)
   one_no_root a b (inr (inl p)) (inr (inl q)) = first_differs a b p.1 q.1
-  one_no_root a b (inr (inl p)) (inr (inr (ys, q, g))) = absurd (not_long ys (stored c) p.0 q)
-  one_no_root a b (inr (inr (xs, p, f))) (inl q) = absurd (not_blank xs (stored c) q.0 p)
-  one_no_root a b (inr (inr (xs, p, f))) (inr (inl q)) = absurd (not_long xs (stored c) q.0 p)
+  one_no_root a b (inr (inl p)) (inr (inr (ys, q, g))) = absurd (not_both (stored c) BadLength (Record ys) (long_record ys) p.0 q)
+  one_no_root a b (inr (inr (xs, p, f))) (inl q) = absurd (not_both (stored c) Blank (Record xs) (blank_record xs) q.0 p)
+  one_no_root a b (inr (inr (xs, p, f))) (inr (inl q)) = absurd (not_both (stored c) BadLength (Record xs) (long_record xs) q.0 p)
   one_no_root a b (inr (inr (xs, p, f))) (inr (inr (ys, q, g))) =
-      let same = same_bytes ys xs (stored c) q p in
+      let same = record_same ys xs (stored c) q p in
       one_stop (whole (root_record (length xs)) xs) a b (stops xs a p f)
       (subst (λ (x : List ℕ). whole (root_record (length x)) x ≡ Err b) same (stops ys b q g))
