@@ -1,7 +1,7 @@
 // The forms of a line, and the first line that has none.
 use sm_base::{DiskNo, Kind};
 use sm_model::Event;
-use sm_script::{LineKind, ScriptFault, read_script};
+use sm_script::{LineKind, Script, ScriptFault, read_script};
 use std::test::Fail;
 
 const CREATE: &str = "volume create -path s:a -disk 1 -type rw -blocks 4 -physical 8\n";
