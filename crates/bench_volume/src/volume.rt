@@ -67,13 +67,21 @@ fn settle<D: Disk>(alloc: Global, volume: &mut Store<D>) -> Result<(), VolumeFau
     volume.cp(alloc)
 }
 
-fn remove<D: Disk>(alloc: Global, volume: &mut Store<D>, drops: &[Ident]) -> Result<(), VolumeFault> {
+fn remove<D: Disk>(
+    alloc: Global,
+    volume: &mut Store<D>,
+    drops: &[Ident],
+) -> Result<(), VolumeFault> {
     check_up(volume)?;
     volume.remove(alloc, drops)
 }
 
 /// Writes so many blocks, the first at the place `from`.
-pub fn write_blocks<D: Disk>(volume: &mut Store<D>, from: u32, count: u32) -> Result<(), VolumeFault> {
+pub fn write_blocks<D: Disk>(
+    volume: &mut Store<D>,
+    from: u32,
+    count: u32,
+) -> Result<(), VolumeFault> {
     let logical = volume.root().logical.max(1);
     let block = Block([7; 4096]);
     for k in 0..count {
@@ -129,7 +137,11 @@ pub fn prepare<D: Disk>(
 }
 
 /// Writes all blocks again, so that the stable map differs from each snapshot's everywhere.
-pub fn rewrite<D: Disk>(alloc: Global, volume: &mut Store<D>, size: Size) -> Result<(), VolumeFault> {
+pub fn rewrite<D: Disk>(
+    alloc: Global,
+    volume: &mut Store<D>,
+    size: Size,
+) -> Result<(), VolumeFault> {
     write_blocks(volume, 0, size.logical())?;
     settle(alloc, volume)
 }
@@ -174,7 +186,11 @@ pub fn remove_often<D: Disk>(
 }
 
 /// Opens the volume on its disk, time after time. The answer is how many blocks are used.
-pub fn open_often<D: Disk + Drop>(alloc: Global, volume: Store<D>, count: u32) -> Result<usize, VolumeFault> {
+pub fn open_often<D: Disk + Drop>(
+    alloc: Global,
+    volume: Store<D>,
+    count: u32,
+) -> Result<usize, VolumeFault> {
     let mut volume = volume;
     for _ in 0..count {
         volume = open_again(alloc, volume)?;
