@@ -1,19 +1,22 @@
-//! Tests of volumes over disks in memory: calls against plain lists, lists of calls, restarts, commits
-//! that the disk stops, and blocks that are fetched.
+//! Tests of volumes over disks in memory, as tables of calls and answers: a small volume through
+//! restarts and stopped commits, and a destination from its first image on.
 #![tactic(auto)]
 
 #[cfg(test)]
-mod fetching;
+mod asking;
+#[cfg(test)]
+mod destination;
 #[cfg(test)]
 mod listed;
 #[cfg(test)]
-mod plain;
+mod making;
 #[cfg(test)]
-mod restarts;
+mod playing;
 #[cfg(test)]
 mod sending;
 #[cfg(test)]
-mod table;
-pub mod tools;
+mod small;
 #[cfg(test)]
-mod torn;
+mod telling;
+#[cfg(test)]
+mod words;

@@ -2,9 +2,12 @@
 ghost use Rattle.std.specs.Prelude.{◌≡◌, true};
 ghost use Rattle.laws_volume.specs.Assigned.{AskNothing};
 
-use crate::tools::{byte_of, check_up, full, small};
+use crate::asking::{check_up, full};
+use crate::making::{disk_of, small};
+use crate::telling::text_of;
 use laws_volume::{Call, perform_all};
-use sm_memdisk::MemDisk;
+use sm_disk::Disk;
+use sm_memdisk::Image;
 use sm_volume::{View, Volume, VolumeFault};
 use std::alloc::Global;
 use std::test::Fail;
@@ -33,15 +36,21 @@ fn calls() -> [Call; 7]
     ]
 }
 
-fn perform_calls(alloc: Global, volume: &mut Volume<MemDisk>) -> Result<(), VolumeFault> {
+fn perform_calls<D: Disk>(alloc: Global, volume: &mut Volume<D>) -> Result<(), VolumeFault> {
     check_up(volume)?;
     perform_all(alloc, volume, &calls())
 }
 
+// Whether the volume tells behind them what the consistency point left.
+fn is_settled<D: Disk + Drop>(alloc: Global, disk: D) -> Result<bool, Fail> {
+    let mut volume = small(alloc, disk)?;
+    perform_calls(alloc, &mut volume)?;
+    Ok(text_of(alloc, &mut volume)?.as_str() == "rw 0 1 2 1: 7")
+}
+
 #[test]
 fn calls_are_made_one_after_another(rt: HostRuntime) -> Result<(), Fail> {
-    let mut volume = small(rt.alloc())?;
-    perform_calls(rt.alloc(), &mut volume)?;
-    assert_eq!(rt; byte_of(&mut volume, View::Active)?, Some(7));
+    let disk = disk_of(rt.alloc(), 0, Image::Old)?;
+    assert!(rt; is_settled(rt.alloc(), disk)?);
     Ok(())
 }

@@ -1,9 +1,10 @@
 // Volumes that go to another thread.
-use crate::tools::small;
-use sm_base::VolNo;
+use crate::making::{disk_of, small};
 use sm_base::limits::BLOCKS_START;
+use sm_disk::Disk;
 use sm_filedisk::FileDisk;
-use sm_volume::{Volume, VolumeFault};
+use sm_memdisk::Image;
+use sm_volume::VolumeFault;
 use std::alloc::Global;
 use std::test::Fail;
 
@@ -12,20 +13,18 @@ fn sent<T: Send>(value: T) -> T {
     value
 }
 
-// What is found without a file.
-fn opened_on_no_file(alloc: Global) -> Result<Volume<FileDisk>, (FileDisk, VolumeFault)> {
-    sent(Volume::open(alloc, FileDisk::missing(), VolNo(0)))
+// How many blocks a new volume uses.
+fn used<D: Disk + Drop + Send>(alloc: Global, disk: D) -> Result<u32, VolumeFault> {
+    let volume = sent(small(alloc, disk)?);
+    Ok(volume.used())
 }
 
 #[test]
 fn a_volume_may_go_to_another_thread(rt: HostRuntime) -> Result<(), Fail> {
-    let volume = sent(small(rt.alloc())?);
-    assert_eq!(rt; volume.used(), 0);
-    let fault = match opened_on_no_file(rt.alloc()) {
-        Ok(_) => None,
-        Err((_, fault)) => Some(fault),
-    };
-    let need = BLOCKS_START + 4096;
-    assert_eq!(rt; fault, Some(VolumeFault::DiskSmall { need, len: 0 }));
+    let disk = disk_of(rt.alloc(), 0, Image::Old)?;
+    assert_eq!(rt; used(rt.alloc(), disk), Ok(0));
+    let need = BLOCKS_START + 2 * 4096;
+    let fault = Err(VolumeFault::DiskSmall { need, len: 0 });
+    assert_eq!(rt; used(rt.alloc(), FileDisk::missing()), fault);
     Ok(())
 }
