@@ -49,7 +49,7 @@ def tell(what, time, base, name="encoding"):
     print(f"    {what:<26} {time:10.1f} us   {time / base:5.2f} of the {name}")
 
 
-for snapshots, calls in (0, 3000), (1, 3000), (24, 400), (255, 60):
+for snapshots, calls in (0, 3000), (1, 3000), (24, 400), (255, 200):
     write = each("write", snapshots, 10000)
     encoding = each("encode", snapshots, 5 * calls)
     print(f"{snapshots} snapshots: a write {write:.2f} us, the encoding {encoding:.1f} us")
