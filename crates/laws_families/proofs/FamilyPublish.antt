@@ -16,6 +16,7 @@ use Rattle.sm_model.specs.Due.{has_other_family}
 use Rattle.sm_model.specs.TransfersStand.{later}
 use Rattle.sm_model.specs.FamiliesStand.{IsBaseOrFirst, InOwnFamily, FamilyStands}
 use Rattle.sm_model.specs.Sound.{SoundUp}
+use Rattle.sm_model.proofs.Families.{base_or_first}
 use Rattle.laws_transfer.proofs.Lists.{has_from_copy}
 use Rattle.laws_cases.specs.Needs.{KeepsNeeded}
 use Rattle.laws_cases.proofs.Steps.Parties.{source_stands, destination_stands, snapshot_is}
@@ -27,10 +28,6 @@ use Rattle.laws_families.proofs.FamilyTakes.{family_taken, lacks_by, filled_has,
 use Rattle.laws_cases.proofs.Steps.RunningTransfers.{here, crossed, transfer, at_x, source_x, policy_x, not_vault, mirrors_none, own_here, same_family}
 use Rattle.sm_defs.specs.Made.{family_of_transfer}
 use Rattle.sm_defs.proofs.Members.{among_right}
-
-base_or_first : (q : Relationship) (is : List Ident) (i : Ident) → q.base ≡ Some i → IsBaseOrFirst q is i
-base_or_first q [] i e = e
-base_or_first q (j ∷ is) i e = inl e
 
 first_of_legs : (q : Relationship) (is : List Ident) (i : Ident) (later : List Ident) → is ≡ i ∷ later → IsBaseOrFirst q is i
 first_of_legs q is i later e = subst (λ ks. IsBaseOrFirst q ks i) (sym e) (inr refl)

@@ -13,9 +13,10 @@ ghost use Rattle.sm_defs.specs.Rules.{first_rules, is_mirror_label, is_wrong_rul
 
 use oracle_lists::{has_rule_for, same_text};
 use oracle_world::{PlainFault, PlainNumber, PlainWorld, policy_named};
-use sm_base::limits::{MOST_KEPT, MOST_POLICIES, MOST_RULES};
+use sm_base::limits::{MOST_POLICIES, MOST_RULES};
 use sm_base::{Label, NameFault, NoMemory, Path1, PolicyKind, Refusal, What};
 use sm_model::{Reply, WorldPolicy, WorldRule};
+use sm_policy::{is_bad_keep, is_wrong_rule};
 use std::alloc::Global;
 
 fn any_named(policies: &[WorldPolicy], name: &[u8]) -> bool
@@ -124,36 +125,11 @@ pub fn policy(world: &PlainWorld, at: usize) -> &WorldPolicy
     &world.policies[at]
 }
 
-fn is_mirror_label(label: &Label) -> bool
-    ensures { result ≡ is_mirror_label label.now }
-{
-    let text = label.text();
-    same_text(text, b"sm_created") || same_text(text, b"all_source_snapshots")
-}
-
-fn is_wrong_rule(kind: PolicyKind, label: &Label, preserve: bool) -> bool
-    ensures { result ≡ is_wrong_rule kind label.now preserve }
-{
-    match kind {
-        PolicyKind::AsyncMirror => !is_mirror_label(label) || preserve,
-        PolicyKind::Vault => is_mirror_label(label),
-    }
-}
-
-fn is_bad_keep(kind: PolicyKind, keep: u32) -> bool
-    ensures { result ≡ is_bad_keep kind keep }
-{
-    match kind {
-        PolicyKind::AsyncMirror => keep != 1,
-        PolicyKind::Vault => keep == 0 || keep > MOST_KEPT,
-    }
-}
-
 fn is_wrong(world: &PlainWorld, at: usize, label: &Label, preserve: bool) -> bool
     requires { at < length world.now.policies }
     ensures { result ≡ is_wrong_rule (policy_at world.now at).kind label.now preserve }
 {
-    is_wrong_rule(policy(world, at).kind, label, preserve)
+    is_wrong_rule(policy(world, at).kind, label.text(), preserve)
 }
 
 fn is_bad(world: &PlainWorld, at: usize, keep: u32) -> bool

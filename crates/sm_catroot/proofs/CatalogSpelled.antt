@@ -7,7 +7,7 @@ use Rattle.sm_defs.specs.Relationship.{Policy}
 use Rattle.sm_fields.specs.Format.{Format, ◌>>=◌, bits32, count, in_turn}
 use Rattle.sm_fields.specs.Grammar.{digits, Spells, IsSpelledBy, AllInTurn}
 use Rattle.sm_fields.proofs.Sizes.{length-digits}
-use Rattle.sm_fields.proofs.Spelled.{count_spelled, in_turn_only, in_turn_again, head_only, head_again}
+use Rattle.sm_fields.proofs.Spelled.{count_spelled, in_turn_only, in_turn_again, head_only, head_again, behind_head}
 use Rattle.sm_relation.specs.declared.relation.Relation.{Relation}
 use Rattle.sm_catroot.specs.declared.placed.Placed.{Placed}
 use Rattle.sm_catroot.specs.declared.TheConstants.{MAGIC}
@@ -97,30 +97,22 @@ magic_bytes (suc (suc (suc (suc (suc (suc zero)))))) = lit< tt
 magic_bytes (suc (suc (suc (suc (suc (suc (suc zero))))))) = lit< tt
 magic_bytes (suc (suc (suc (suc (suc (suc (suc (suc i)))))))) = lit< tt
 
--- how many bytes stand behind the head
-behind_head : (bytes front back body : List ℕ) (n : ℕ) → bytes ≡ front ++ back → front ≡ MAGIC ++ digits bits32 n → back ≡ body → length bytes - 12 ≡ length body
-behind_head bytes front back body n parts is same =
-    omega (arith, ap length parts, length-append front back, ap length is, length-append MAGIC (digits bits32 n), length-digits bits32 n, ap length same)
-
-regrouped : (n : ℕ) (body : List ℕ) → (MAGIC ++ digits bits32 n) ++ body ≡ MAGIC ++ (digits bits32 n ++ body)
-regrouped n body = append_assoc MAGIC (digits bits32 n) body
-
 pub record_only : (k : Catalog) (bytes : List ℕ) → Spells (catalog_record (length bytes)) k bytes → FitsBody k × (bytes ≡ spelling k)
 unfolding catalog_record
 record_only k bytes s =
     let h = head_only MAGIC (length bytes - 12) s.0 s.1 s.3 in
     let b = body_only k s.2 s.4 in
-    let behind : length bytes - 12 ≡ length (body_bytes k) = behind_head bytes s.1 s.2 (body_bytes k) (length bytes - 12) s.5 h.2 b.1 in
+    let behind : length bytes - 12 ≡ length (body_bytes k) = behind_head MAGIC bytes s.1 s.2 (body_bytes k) (length bytes - 12) refl s.5 h.2 b.1 in
     let whole : bytes ≡ (MAGIC ++ digits bits32 (length (body_bytes k))) ++ body_bytes k =
     s.5 ∙ ap (λ (x : List ℕ). x ++ s.2) h.2 ∙ ap (λ (x : List ℕ). (MAGIC ++ digits bits32 (length bytes - 12)) ++ x) b.1 ∙ ap (λ (n : ℕ). (MAGIC ++ digits bits32 n) ++ body_bytes k) behind in
-    (b.0, whole ∙ regrouped (length (body_bytes k)) (body_bytes k))
+    (b.0, whole ∙ append_assoc MAGIC (digits bits32 (length (body_bytes k))) (body_bytes k))
 
 pub record_again : (k : Catalog) (bytes : List ℕ) → FitsBody k → length bytes < 2 ^ 32 → bytes ≡ spelling k → Spells (catalog_record (length bytes)) k bytes
 unfolding catalog_record
 record_again k bytes fits small e =
     let n = length (body_bytes k) in
-    let parts : bytes ≡ (MAGIC ++ digits bits32 n) ++ body_bytes k = e ∙ sym (regrouped n (body_bytes k)) in
-    let behind : length bytes - 12 ≡ n = behind_head bytes (MAGIC ++ digits bits32 n) (body_bytes k) (body_bytes k) n parts refl refl in (
+    let parts : bytes ≡ (MAGIC ++ digits bits32 n) ++ body_bytes k = e ∙ sym (append_assoc MAGIC (digits bits32 n) (body_bytes k)) in
+    let behind : length bytes - 12 ≡ n = behind_head MAGIC bytes (MAGIC ++ digits bits32 n) (body_bytes k) (body_bytes k) n refl parts refl refl in (
       true,
       MAGIC ++ digits bits32 (length bytes - 12),
       body_bytes k,

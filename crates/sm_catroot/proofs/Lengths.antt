@@ -13,7 +13,7 @@ use Rattle.sm_defs.specs.Words.{Among}
 use Rattle.sm_defs.proofs.Members.{among_append}
 use Rattle.sm_fields.specs.Format.{bits8, bits32, bits64}
 use Rattle.sm_fields.specs.Grammar.{digits, with_length, truth_digits, identity_digits, option_digits}
-use Rattle.sm_fields.proofs.Sizes.{length-identity_digits, length-digits}
+use Rattle.sm_fields.proofs.Sizes.{length-identity_digits, length-digits, length-truth_digits}
 use Rattle.sm_relation.specs.declared.relation.Relation.{Relation}
 use Rattle.sm_relation.specs.declared.relation.Standing.{Standing}
 use Rattle.sm_catroot.specs.declared.placed.Placed.{Placed}
@@ -28,10 +28,6 @@ use Rattle.sm_catroot.proofs.CatalogFits.{label_short}
 use Rattle.sm_catroot.proofs.Differ.{each_of}
 use Rattle.sm_catroot.proofs.PathSpelled.{parts_of, part_short}
 
-length-truth : (b : Bool) → length (truth_digits b) ≡ 1
-length-truth true = refl
-length-truth false = refl
-
 length-numbers : (n : Numbers) → length (numbers_digits n) ≡ 20
 unfolding numbers_digits
 length-numbers n = omega (arith, length-append (digits bits64 n.clock) (digits bits32 n.next_relation ++ digits bits64 n.next_transfer), length-append (digits bits32 n.next_relation) (digits bits64 n.next_transfer), length-digits bits64 n.clock, length-digits bits32 n.next_relation, length-digits bits64 n.next_transfer)
@@ -44,7 +40,7 @@ placed_short v is =
 
 rule_short : (r : Rule) → length r.label ≤ 31 → length (rule_digits r) ≤ 37
 unfolding rule_digits
-rule_short r few = omega (arith, length-append (with_length r.label) (digits bits32 r.keep ++ truth_digits r.preserve), length-append (digits bits32 r.keep) (truth_digits r.preserve), length-digits bits32 r.keep, length-truth r.preserve, few)
+rule_short r few = omega (arith, length-append (with_length r.label) (digits bits32 r.keep ++ truth_digits r.preserve), length-append (digits bits32 r.keep) (truth_digits r.preserve), length-digits bits32 r.keep, length-truth_digits r.preserve, few)
 
 first_label : (kind : PolicyKind) (r : Rule) → Among (first_rules kind) r → length r.label ≤ 31
 first_label AsyncMirror r (inl same) = subst (λ (x : Rule). length x.label ≤ 31) (sym same) (lit≤ tt)
@@ -83,7 +79,7 @@ policies_short (x ∷ xs) each = omega (arith, ap length (flat_map-cons policy_d
 
 length-transfer_head : (h : TransferHead) → length (transfer_head_digits h) ≡ 14
 unfolding transfer_head_digits
-length-transfer_head h = omega (arith, length-append (digits bits64 h.number) (digits bits8 (transfer_kind_number h.kind) ++ (truth_digits h.reserved ++ digits bits32 h.checkpoint)), length-append (digits bits8 (transfer_kind_number h.kind)) (truth_digits h.reserved ++ digits bits32 h.checkpoint), length-append (truth_digits h.reserved) (digits bits32 h.checkpoint), length-digits bits64 h.number, length-digits bits8 (transfer_kind_number h.kind), length-truth h.reserved, length-digits bits32 h.checkpoint)
+length-transfer_head h = omega (arith, length-append (digits bits64 h.number) (digits bits8 (transfer_kind_number h.kind) ++ (truth_digits h.reserved ++ digits bits32 h.checkpoint)), length-append (digits bits8 (transfer_kind_number h.kind)) (truth_digits h.reserved ++ digits bits32 h.checkpoint), length-append (truth_digits h.reserved) (digits bits32 h.checkpoint), length-digits bits64 h.number, length-digits bits8 (transfer_kind_number h.kind), length-truth_digits h.reserved, length-digits bits32 h.checkpoint)
 
 transfer_short : (t : Standing) → HasFewLegs t → length (transfer_digits t) ≤ 3090
 unfolding transfer_digits
@@ -106,7 +102,7 @@ length-relation_head h =
     let c = digits bits32 h.policy ++ d in
     let b = digits bits32 h.destination.0 ++ c in
     let a = digits bits32 h.source.0 ++ b in
-    omega (arith, length-append (digits bits32 h.number.0) a, length-append (digits bits32 h.source.0) b, length-append (digits bits32 h.destination.0) c, length-append (digits bits32 h.policy) d, length-append (digits bits8 (halves_number h.halves)) (truth_digits h.quiesced), length-digits bits32 h.number.0, length-digits bits32 h.source.0, length-digits bits32 h.destination.0, length-digits bits32 h.policy, length-digits bits8 (halves_number h.halves), length-truth h.quiesced)
+    omega (arith, length-append (digits bits32 h.number.0) a, length-append (digits bits32 h.source.0) b, length-append (digits bits32 h.destination.0) c, length-append (digits bits32 h.policy) d, length-append (digits bits8 (halves_number h.halves)) (truth_digits h.quiesced), length-digits bits32 h.number.0, length-digits bits32 h.source.0, length-digits bits32 h.destination.0, length-digits bits32 h.policy, length-digits bits8 (halves_number h.halves), length-truth_digits h.quiesced)
 
 relation_short : (r : Relation) → IsRelation r → length (relation_digits r) ≤ 3122
 unfolding relation_digits

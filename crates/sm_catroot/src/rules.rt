@@ -9,10 +9,9 @@ ghost use Rattle.sm_fields.specs.Reads.{Gives, at_byte};
 ghost use Rattle.sm_register.specs.Answer.{bad_byte};
 ghost use Rattle.sm_catroot.specs.Layout.{rule as rule_format, this_rule, these_rules, is_free_label, may_preserve, added as added_format};
 
-use sm_base::limits::MOST_KEPT;
 use sm_base::{Label, NameFault, NoMemory, PolicyKind};
 use sm_fields::{FieldFault, Reader, read_truth};
-use sm_policy::{Policy, Rule};
+use sm_policy::{Policy, Rule, is_bad_keep, is_wrong_rule};
 use sm_register::DecodeFault;
 use std::alloc::Global;
 
@@ -20,17 +19,6 @@ fn same_text(one: &[u8], other: &[u8]) -> bool
     ensures { result ≡ bytes_eq one.now other.now }
 {
     one == other
-}
-
-/// Whether policies of this kind may have a rule for the label.
-fn is_label_of(kind: PolicyKind, label: &[u8]) -> bool
-    ensures { result ≡ not (is_wrong_rule kind label.now false) }
-{
-    let mirrors = same_text(label, b"sm_created") || same_text(label, b"all_source_snapshots");
-    match kind {
-        PolicyKind::AsyncMirror => mirrors,
-        PolicyKind::Vault => !mirrors,
-    }
 }
 
 /// Whether the policy has a rule for the label.
@@ -62,19 +50,10 @@ fn read_free_label(
 {
     let here = FieldFault::here(reader);
     let label = read_label(alloc, reader)?;
-    if !is_label_of(policy.kind(), label.text()) || is_ruled(policy, &label) {
+    if is_wrong_rule(policy.kind(), label.text(), false) || is_ruled(policy, &label) {
         return Err(DecodeFault::Bad { at: here.at });
     }
     Ok(label)
-}
-
-fn is_bad_keep(kind: PolicyKind, keep: u32) -> bool
-    ensures { result ≡ is_bad_keep kind keep }
-{
-    match kind {
-        PolicyKind::AsyncMirror => keep != 1,
-        PolicyKind::Vault => keep == 0 || keep > MOST_KEPT,
-    }
 }
 
 fn read_keep(reader: &mut Reader, kind: PolicyKind) -> Result<u32, FieldFault>

@@ -6,3 +6,4 @@ pub mod Keys
 pub mod Searches
 pub mod Numbers
 pub mod Classes
+pub mod Places

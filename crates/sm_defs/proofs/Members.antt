@@ -1,5 +1,5 @@
 -- What stands in a list, and what holds of each of its members.
-use Rattle.std.proofs.Common.{◌≡◌, ◌⊎◌, ◌<◌, ℕ, zero, suc, ◌==◌, ◌||◌, Bool, true, false, cond, List, [], ◌∷◌, ◌++◌, map, length, Some, refl, ap, sym, subst, inl, inr, eqb-true, eq-eqb, arith}
+use Rattle.std.proofs.Common.{take, ◌≡◌, ◌⊎◌, ◌<◌, ℕ, zero, suc, ◌==◌, ◌||◌, Bool, true, false, cond, List, [], ◌∷◌, ◌++◌, map, length, Some, refl, ap, sym, subst, inl, inr, eqb-true, eq-eqb, arith}
 use Rattle.std.proofs.lemmas.Bool.{or_left, or_right, or_cases}
 use Rattle.std.proofs.lemmas.Option.{same_Some}
 use Rattle.std.specs.Prelude.{slice_get, slice_set, slice_index_or}
@@ -196,3 +196,9 @@ pub any_flat : {X Y : Type 0} (p : Y → Bool) (f : X → List Y) (xs : List X) 
 any_flat p f [] x m e = absurd m
 any_flat p f (z ∷ xs) x (inl k) e = any_left p (f z) (flat_map f xs) (subst (λ y. list_any p (f y) ≡ true) k e)
 any_flat p f (z ∷ xs) x (inr m) e = any_right p (f z) (flat_map f xs) (any_flat p f xs x m e)
+
+pub among_take : {X : Type 0} (k : ℕ) (xs : List X) (y : X) → Among (take k xs) y → Among xs y
+among_take zero xs y a = absurd a
+among_take (suc k) [] y a = absurd a
+among_take (suc k) (x ∷ xs) y (inl same) = inl same
+among_take (suc k) (x ∷ xs) y (inr later) = inr (among_take k xs y later)

@@ -1,4 +1,5 @@
 pub mod Words
+pub mod Places
 pub mod Image
 pub mod Volume
 pub mod Operations

@@ -1,11 +1,11 @@
 -- A number in its bytes is that number again, for each size.
-use Rattle.std.proofs.Common.{◌≡◌, ℕ, suc, ◌+◌, ◌<◌, List, [], ◌∷◌, length, get_or, take, drop, refl, arith, inl, inr, length-append}
+use Rattle.std.proofs.Common.{◌≡◌, ℕ, Bool, true, false, suc, ◌+◌, ◌<◌, List, [], ◌∷◌, length, get_or, take, drop, refl, arith, inl, inr, length-append}
 use Rattle.std.proofs.lemmas.Bool.{cases_lt}
 use Rattle.std.proofs.lemmas.List.{length-take, get_or-drop, get_or-take, get_or_past}
 use Rattle.std.proofs.lemmas.Nat.{be_bytes_4, be_bytes_8, from_be_bytes-to_be_bytes_4, from_be_bytes-to_be_bytes_8}
 use Rattle.sm_base.specs.declared.numbers.Ident.{Ident}
 use Rattle.sm_fields.specs.Format.{Size, bits8, bits32, bits64}
-use Rattle.sm_fields.specs.Grammar.{digits, limit, identity_digits}
+use Rattle.sm_fields.specs.Grammar.{digits, limit, truth_digits, identity_digits}
 use Rattle.sm_fields.specs.Place.{IsBytes}
 use Rattle.sm_fields.specs.Reading.{width, number_of}
 
@@ -52,3 +52,7 @@ number_of_below bits64 bytes fits = omega (arith, fits 0, fits 1, fits 2, fits 3
 
 pub length-identity_digits : (i : Ident) → length (identity_digits i) ≡ 12
 length-identity_digits i = omega (arith, length-append (digits bits32 i.origin) (digits bits64 i.seq), length-digits bits32 i.origin, length-digits bits64 i.seq)
+
+pub length-truth_digits : (v : Bool) → length (truth_digits v) ≡ 1
+length-truth_digits true = refl
+length-truth_digits false = refl

@@ -1,5 +1,5 @@
 -- Each value has one spelling: for the fields, and for lists of what has one.
-use Rattle.std.proofs.Common.{◌≡◌, ℕ, zero, suc, ◌^◌, ◌<◌, ◌≤◌, Bool, true, false, List, [], ◌∷◌, ◌++◌, length, get_or, refl, sym, ap, ◌∙◌, arith, lit<}
+use Rattle.std.proofs.Common.{◌≡◌, ℕ, zero, suc, ◌-◌, ◌^◌, ◌<◌, ◌≤◌, Bool, true, false, List, [], ◌∷◌, ◌++◌, length, get_or, refl, sym, ap, ◌∙◌, arith, length-append, lit<}
 use Rattle.std.specs.Prelude.{nat_le, ◌==◌, Option, Some, None, IfSome}
 use Rattle.std.specs.List.{flat_map}
 use Rattle.std.proofs.lemmas.Bool.{eqb-true, leb-true, le-leb}
@@ -8,6 +8,7 @@ use Rattle.std.proofs.lemmas.List.Concat.{flat_map-cons}
 use Rattle.sm_base.specs.declared.numbers.Ident.{Ident}
 use Rattle.sm_fields.specs.Format.{Format, Size, bits8, bits32, bits64, count, truth, identity, option, where_it_stands, word, head, in_turn}
 use Rattle.sm_fields.specs.Grammar.{digits, limit, with_length, truth_digits, identity_digits, option_digits, Spells, IsIdentity, IsSpelledBy, AllInTurn}
+use Rattle.sm_fields.proofs.Sizes.{length-digits}
 
 pub number_spelled : (size : Size) → IsSpelledBy (Format.number size) (λ n. n < limit size) (digits size)
 number_spelled size = record { only = λ n bytes s. s; spelled = λ n fits. (fits, refl) }
@@ -102,6 +103,11 @@ head_only magic behind b front s =
 pub head_again : (magic : List ℕ) (behind : ℕ) → ((i : ℕ) → get_or magic i 0 < 256) → behind < 2 ^ 32 → Spells (head magic behind) true (magic ++ digits bits32 behind)
 head_again magic behind fits lt =
     (true, magic, digits bits32 behind, word_again magic fits, (behind, digits bits32 behind, [], ((lt, refl), eqb_same behind), (refl, refl), sym (append-nil (digits bits32 behind))), refl)
+
+-- how many bytes stand behind a head of 12 bytes
+pub behind_head : (magic bytes front back body : List ℕ) (n : ℕ) → length magic ≡ 8 → bytes ≡ front ++ back → front ≡ magic ++ digits bits32 n → back ≡ body → length bytes - 12 ≡ length body
+behind_head magic bytes front back body n long parts is same =
+    omega (arith, long, ap length parts, length-append front back, ap length is, length-append magic (digits bits32 n), length-digits bits32 n, ap length same)
 
 -- ---- lists
 

@@ -36,13 +36,16 @@ impl<T: Drop> From<AllocFailed<T>> for RuleFault {
     }
 }
 
-fn is_mirror_label(label: &Label) -> bool
+/// Whether policies of mirrors alone may have a rule for the label.
+pub fn is_mirror_label(label: &[u8]) -> bool
     ensures { result ≡ is_mirror_label label.now }
 {
-    same_text(label.text(), b"sm_created") || same_text(label.text(), b"all_source_snapshots")
+    same_text(label, b"sm_created") || same_text(label, b"all_source_snapshots")
 }
 
-fn is_wrong_rule(kind: PolicyKind, label: &Label, preserve: bool) -> bool
+/// Whether a policy of the kind may not have such a rule: a mirror's have their two labels and keep
+/// nothing for good, a vault's have other labels.
+pub fn is_wrong_rule(kind: PolicyKind, label: &[u8], preserve: bool) -> bool
     ensures { result ≡ is_wrong_rule kind label.now preserve }
 {
     match kind {
@@ -51,7 +54,8 @@ fn is_wrong_rule(kind: PolicyKind, label: &Label, preserve: bool) -> bool
     }
 }
 
-fn is_bad_keep(kind: PolicyKind, keep: u32) -> bool
+/// Whether a rule of the kind may not keep so many: a mirror keeps 1, a vault 1 to [`MOST_KEPT`].
+pub fn is_bad_keep(kind: PolicyKind, keep: u32) -> bool
     ensures { result ≡ is_bad_keep kind keep }
 {
     match kind {
@@ -65,7 +69,7 @@ impl Policy {
     fn rule_refusal(&self, label: &Label, keep: u32, preserve: bool) -> Option<RuleFault>
         ensures { result ≡ rule_refusal self.now label.now keep preserve }
     {
-        if is_wrong_rule(self.kind(), label, preserve) {
+        if is_wrong_rule(self.kind(), label.text(), preserve) {
             Some(RuleFault::WrongRule)
         } else if is_bad_keep(self.kind(), keep) {
             Some(RuleFault::BadKeep)

@@ -8,5 +8,5 @@ mod policy;
 mod reaching;
 mod ruling;
 
-pub use adding::RuleFault;
+pub use adding::{RuleFault, is_bad_keep, is_mirror_label, is_wrong_rule};
 pub use policy::{Policy, Rule};

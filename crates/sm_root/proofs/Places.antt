@@ -5,7 +5,9 @@ use Rattle.std.proofs.lemmas.Bool.{cases_eq, leb-true, le-leb, and_parts, and_fr
 use Rattle.sm_defs.specs.Words.{Among}
 use Rattle.sm_fields.specs.Format.{bits32}
 use Rattle.sm_fields.specs.Grammar.{limit, AllInTurn}
-use Rattle.sm_root.specs.Condition.{StandsAt, OnePlace, AllAtMost}
+use Rattle.sm_defs.specs.Places.{StandsAt, OnePlace}
+use Rattle.sm_defs.proofs.Places.{wider}
+use Rattle.sm_root.specs.Condition.{AllAtMost}
 use Rattle.sm_root.specs.Spots.{Spot, place_of, with_spot, with_map, with_maps, is_place, may_stand}
 
 abbrev pub Fit : ℕ → List Spot → ℕ → List ℕ → Type 0
@@ -153,9 +155,6 @@ fits_at_one most seen place (suc m ∷ ns) bounded agrees own =
       fits_at_one most (with_spot seen place (suc m)) (suc place) ns (λ i lt. bounded (suc i) (omega arith)) later
           (λ i j lt lt' nz same. let e = own (suc i) (suc j) (omega arith) (omega arith) nz same in omega arith),
     )
-
-wider : (m : List ℕ) (ms : List (List ℕ)) (n p : ℕ) → StandsAt ms n p → StandsAt (m ∷ ms) n p
-wider m ms n p a = record { in_map = a.in_map; is_map = inr a.is_map; in_range = a.in_range; here = a.here }
 
 in_first : (m : List ℕ) (ms : List (List ℕ)) (i : ℕ) → i < length m → StandsAt (m ∷ ms) (get_or m i 0) i
 in_first m ms i lt = record { in_map = m; is_map = inl refl; in_range = lt; here = refl }

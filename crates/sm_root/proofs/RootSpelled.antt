@@ -8,7 +8,7 @@ use Rattle.sm_defs.specs.Words.{Among}
 use Rattle.sm_fields.specs.Format.{number, such_that, bits32, in_turn}
 use Rattle.sm_fields.specs.Grammar.{digits, limit, identity_digits, IsIdentity, Spells, IsSpelledBy, AllInTurn}
 use Rattle.sm_fields.proofs.Sizes.{length-digits}
-use Rattle.sm_fields.proofs.Spelled.{number_spelled, such_that_spelled, identity_spelled, count_spelled, in_turn_only, in_turn_again, head_only, head_again}
+use Rattle.sm_fields.proofs.Spelled.{number_spelled, such_that_spelled, identity_spelled, count_spelled, in_turn_only, in_turn_again, head_only, head_again, behind_head}
 use Rattle.sm_root.specs.declared.root.Root.{Root}
 use Rattle.sm_root.specs.declared.root.RootSnapshot.{RootSnapshot}
 use Rattle.sm_root.specs.declared.TheConstants.{MAGIC, RECORD_SNAPSHOTS}
@@ -216,30 +216,22 @@ magic_bytes (suc (suc (suc (suc (suc (suc zero)))))) = lit< tt
 magic_bytes (suc (suc (suc (suc (suc (suc (suc zero))))))) = lit< tt
 magic_bytes (suc (suc (suc (suc (suc (suc (suc (suc i)))))))) = lit< tt
 
--- how many bytes stand behind the head
-behind_head : (bytes front back body : List ℕ) (n : ℕ) → bytes ≡ front ++ back → front ≡ MAGIC ++ digits bits32 n → back ≡ body → length bytes - 12 ≡ length body
-behind_head bytes front back body n parts is same =
-    omega (arith, ap length parts, length-append front back, ap length is, length-append MAGIC (digits bits32 n), length-digits bits32 n, ap length same)
-
-regrouped : (n : ℕ) (body : List ℕ) → (MAGIC ++ digits bits32 n) ++ body ≡ MAGIC ++ (digits bits32 n ++ body)
-regrouped n body = append_assoc MAGIC (digits bits32 n) body
-
 pub record_only : (r : Root) (bytes : List ℕ) → Spells (root_record (length bytes)) r bytes → IsRoot r × (bytes ≡ spelling r)
 unfolding root_record
 record_only r bytes s =
     let h = head_only MAGIC (length bytes - 12) s.0 s.1 s.3 in
     let b = body_only r s.2 s.4 in
-    let behind : length bytes - 12 ≡ length (body_bytes r) = behind_head bytes s.1 s.2 (body_bytes r) (length bytes - 12) s.5 h.2 b.1 in
+    let behind : length bytes - 12 ≡ length (body_bytes r) = behind_head MAGIC bytes s.1 s.2 (body_bytes r) (length bytes - 12) refl s.5 h.2 b.1 in
     let whole : bytes ≡ (MAGIC ++ digits bits32 (length (body_bytes r))) ++ body_bytes r =
     s.5 ∙ ap (λ (x : List ℕ). x ++ s.2) h.2 ∙ ap (λ (x : List ℕ). (MAGIC ++ digits bits32 (length bytes - 12)) ++ x) b.1 ∙ ap (λ (n : ℕ). (MAGIC ++ digits bits32 n) ++ body_bytes r) behind in
-    (root_of r b.0, whole ∙ regrouped (length (body_bytes r)) (body_bytes r))
+    (root_of r b.0, whole ∙ append_assoc MAGIC (digits bits32 (length (body_bytes r))) (body_bytes r))
 
 pub record_again : (r : Root) (bytes : List ℕ) → IsRoot r → length bytes < 2 ^ 32 → bytes ≡ spelling r → Spells (root_record (length bytes)) r bytes
 unfolding root_record
 record_again r bytes is small e =
     let n = length (body_bytes r) in
-    let parts : bytes ≡ (MAGIC ++ digits bits32 n) ++ body_bytes r = e ∙ sym (regrouped n (body_bytes r)) in
-    let behind : length bytes - 12 ≡ n = behind_head bytes (MAGIC ++ digits bits32 n) (body_bytes r) (body_bytes r) n parts refl refl in (
+    let parts : bytes ≡ (MAGIC ++ digits bits32 n) ++ body_bytes r = e ∙ sym (append_assoc MAGIC (digits bits32 n) (body_bytes r)) in
+    let behind : length bytes - 12 ≡ n = behind_head MAGIC bytes (MAGIC ++ digits bits32 n) (body_bytes r) (body_bytes r) n refl parts refl refl in (
       true,
       MAGIC ++ digits bits32 (length bytes - 12),
       body_bytes r,

@@ -3,6 +3,7 @@ use Rattle.std.specs.Prelude.{◌≡◌, ◌≢◌, ℕ, ◌^◌, ◌<◌, ◌�
 use Rattle.sm_base.specs.Name.{is_label, is_snapshot_name}
 use Rattle.sm_base.specs.declared.numbers.Ident.{Ident}
 use Rattle.sm_base.specs.declared.limits.TheConstants.{MOST_LOGICAL, MOST_PHYSICAL, LAST_NUMBER}
+use Rattle.sm_defs.specs.Places.{StandsAt, OnePlace}
 use Rattle.sm_defs.specs.Words.{Among, KeysDiffer}
 use Rattle.sm_fields.specs.Grammar.{IsIdentity}
 use Rattle.sm_root.specs.declared.TheConstants.{RECORD_SNAPSHOTS}
@@ -19,17 +20,6 @@ map_of s = s.map
 -- the maps of the stable image and of the snapshots, oldest first
 abbrev pub maps_of : Root → List (List ℕ)
 maps_of r = r.stable ∷ map map_of r.snapshots
-
--- this number stands at this place of one of the maps
-pub record StandsAt (maps : List (List ℕ)) (number place : ℕ) : Type 0 where
-  pub in_map : List ℕ
-  pub is_map : Among maps in_map
-  pub in_range : place < length in_map
-  pub here : slice_index in_map place ≡ number
-
--- a number but 0 stands at one place alone, in all the maps; so it stands once in each
-abbrev pub OnePlace : List (List ℕ) → Type 0
-OnePlace maps = (number p q : ℕ) → number ≢ 0 → StandsAt maps number p → StandsAt maps number q → p ≡ q
 
 -- no number is above the greatest
 abbrev pub AllAtMost : List (List ℕ) → ℕ → Type 0

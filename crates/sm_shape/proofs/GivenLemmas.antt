@@ -12,6 +12,7 @@ use Rattle.sm_defs.specs.Made.{family_of_transfer}
 use Rattle.sm_defs.specs.Relationship.{Relationship, Transfer}
 use Rattle.sm_defs.specs.World.{volume_at}
 use Rattle.sm_model.specs.FamiliesStand.{IsFamily, IsBaseOrFirst, IsVaultTo}
+use Rattle.sm_model.proofs.Families.{base_or_first}
 use Rattle.sm_model.specs.declared.world.World.{World}
 use Rattle.sm_model.specs.declared.world.WorldVolume.{WorldVolume}
 use Rattle.sm_model.specs.declared.world.WorldSnapshot.{WorldSnapshot}
@@ -44,10 +45,6 @@ some_at [] n lt = absurd (omega arith)
 some_at (x ∷ xs) zero lt = (x, refl)
 some_at (x ∷ xs) (suc n) lt = some_at xs n (omega arith)
 
-is_base : (r : Relationship) (legs : List Ident) (i : Ident) → r.base ≡ Some i → IsBaseOrFirst r legs i
-is_base r [] i e = e
-is_base r (j ∷ js) i e = inl e
-
 module _ (w : World) (r : Relationship) (t : Transfer) (source : List WorldSnapshot) (source_is : map blank_snapshot source ≡ (volume_at (blank w) r.source).snapshots) where
   abbrev HasFirst : Type 0
   HasFirst = (i : Ident) × IsBaseOrFirst r t.legs i × (has (volume_at (blank w) r.source).snapshots i ≡ true)
@@ -57,7 +54,7 @@ module _ (w : World) (r : Relationship) (t : Transfer) (source : List WorldSnaps
 
   of_base : (o : Option Ident) → r.base ≡ o → HasOne o source → HasFirst
   of_base None e h = absurd h
-  of_base (Some i) e h = (i, is_base r t.legs i e, there i h)
+  of_base (Some i) e h = (i, base_or_first r t.legs i e, there i h)
 
   of_first : (legs : List Ident) → t.legs ≡ legs → HasOne (first_of legs) source → HasFirst
   of_first [] e h = absurd h

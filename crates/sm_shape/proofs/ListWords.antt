@@ -8,12 +8,6 @@ use Rattle.sm_defs.proofs.Members.{among_append, among_map, from_map, among_get_
 pub among_read : {X : Type 0} (xs : List X) (k : ℕ) (x : X) → k < length xs → x ≡ get_or xs k x → Among xs x
 among_read xs k x lt is = subst (Among xs) (sym is) (among_get_or xs k x lt)
 
-pub among_take : {X : Type 0} (k : ℕ) (xs : List X) (y : X) → Among (take k xs) y → Among xs y
-among_take zero xs y a = absurd a
-among_take (suc k) [] y a = absurd a
-among_take (suc k) (x ∷ xs) y (inl same) = inl same
-among_take (suc k) (x ∷ xs) y (inr later) = inr (among_take k xs y later)
-
 pub record At (X : Type 0) (xs : List X) (d y : X) : Type 0 where
   pub at : ℕ
   pub in_range : at < length xs
@@ -47,10 +41,6 @@ image_each f P xs all x a = all (f x) (among_map f xs x a)
 
 pub whole_front : {X : Type 0} (P : X → Type 0) (xs : List X) (k : ℕ) → length xs ≤ k → ((x : X) → Among (take k xs) x → P x) → (x : X) → Among xs x → P x
 whole_front P xs k end all x a = all x (subst (λ l. Among l x) (sym (take_all k xs end)) a)
-
-pub none_of_length : {X : Type 0} (xs : List X) → length xs ≡ 0 → xs ≡ []
-none_of_length [] e = refl
-none_of_length (x ∷ xs) e = absurd (omega (arith, e))
 
 -- `All` and `Among`
 pub all_among : {X : Type 0} (P : X → Type 0) (xs : List X) → All P xs → (x : X) → Among xs x → P x

@@ -5,7 +5,9 @@ use Rattle.std.proofs.lemmas.Bool.{cases_eq}
 use Rattle.std.proofs.lemmas.Bool.Decides.{nat_tests}
 use Rattle.std.proofs.lemmas.List.{get_or-set_same, get_or-set_other, get_or-take, length-take, length-set}
 use Rattle.sm_defs.specs.Words.{Among}
-use Rattle.sm_shape.specs.Marks.{StandsAt, AtOnePlace, IsTableOf, free_at, with_number}
+use Rattle.sm_defs.specs.Places.{StandsAt}
+use Rattle.sm_defs.proofs.Places.{wider}
+use Rattle.sm_shape.specs.Marks.{AtOnePlace, IsTableOf, free_at, with_number}
 
 -- in the first map or in the others
 pub record Here (x : List ℕ) (n p : ℕ) : Type 0 where
@@ -18,9 +20,6 @@ apart x maps n p a = go a.in_map a.is_map a.in_range a.here
     go : (m : List ℕ) → Among (x ∷ maps) m → p < length m → get_or m p 0 ≡ n → Here x n p ⊎ StandsAt maps n p
     go m (inl same) lt is = inl (record { in_range = subst (λ (y : List ℕ). p < length y) same lt; here = subst (λ (y : List ℕ). get_or y p 0 ≡ n) same is })
     go m (inr later) lt is = inr (record { in_map = m; is_map = later; in_range = lt; here = is })
-
-pub wider : (x : List ℕ) (maps : List (List ℕ)) (n p : ℕ) → StandsAt maps n p → StandsAt (x ∷ maps) n p
-wider x maps n p a = record { in_map = a.in_map; is_map = inr a.is_map; in_range = a.in_range; here = a.here }
 
 pub in_first : (x : List ℕ) (maps : List (List ℕ)) (n p : ℕ) → Here x n p → StandsAt (x ∷ maps) n p
 in_first x maps n p h = record { in_map = x; is_map = inl refl; in_range = h.in_range; here = h.here }

@@ -9,7 +9,8 @@ use Rattle.sm_model.specs.DestinationsStand.{StandsAtSnapshot}
 use Rattle.sm_model.specs.declared.world.WorldSnapshot.{WorldSnapshot}
 use Rattle.sm_model.specs.declared.world.WorldVolume.{WorldVolume}
 use Rattle.sm_shape.specs.Blank.{zeros, blank_block, blank_image, blank_snapshot, blank_volume}
-use Rattle.sm_shape.specs.Marks.{StandsAt, one_map, maps_of}
+use Rattle.sm_defs.specs.Places.{StandsAt}
+use Rattle.sm_shape.specs.Marks.{one_map, maps_of}
 use Rattle.sm_shape.specs.Places.{HasMap}
 use Rattle.sm_defs.proofs.Members.{among_map, from_map}
 use Rattle.sm_shape.proofs.TagsLemmas.{stored_stands, stands_stored}

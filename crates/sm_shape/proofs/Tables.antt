@@ -2,7 +2,8 @@
 use Rattle.std.proofs.Common.{◌≡◌, ℕ, ◌<◌, ◌≤◌, List, [], length, get_or, replicate, sym, subst, arith, inl, inr}
 use Rattle.std.proofs.lemmas.Bool.{cases_lt}
 use Rattle.std.proofs.lemmas.List.{get_or-replicate, length-replicate, get_or_past}
-use Rattle.sm_shape.specs.Marks.{StandsAt, AtOnePlace, IsTableOf}
+use Rattle.sm_defs.specs.Places.{StandsAt}
+use Rattle.sm_shape.specs.Marks.{AtOnePlace, IsTableOf}
 use Rattle.sm_shape.proofs.TakesSteps.{Within}
 
 at_within : (xs ys : List (List ℕ)) → Within xs ys → (n p : ℕ) → StandsAt xs n p → StandsAt ys n p

@@ -10,7 +10,8 @@ use Rattle.sm_model.specs.TagsFit.{TagsFitIn}
 use Rattle.sm_model.specs.declared.world.WorldSnapshot.{WorldSnapshot}
 use Rattle.sm_model.specs.declared.world.WorldVolume.{WorldVolume}
 use Rattle.sm_shape.specs.Blank.{blank_block, blank_image, blank_snapshot, blank_volume}
-use Rattle.sm_shape.specs.Marks.{StandsAt, AtOnePlace, one_map, maps_of}
+use Rattle.sm_defs.specs.Places.{StandsAt}
+use Rattle.sm_shape.specs.Marks.{AtOnePlace, one_map, maps_of}
 use Rattle.sm_defs.proofs.Members.{among_map, from_map}
 
 blank_images : (ss : List WorldSnapshot) → map image_of (map blank_snapshot ss) ≡ map blank_image (flat_map one_map ss)

@@ -2,21 +2,14 @@
 use Rattle.std.specs.Prelude.{◌≡◌, ◌≢◌, ℕ, ◌+◌, ◌<◌, ◌==◌, ◌&&◌, ◌||◌, nat_lt, Bool, if◌then◌else◌, List, [], ◌∷◌, length, slice_index, slice_set}
 use Rattle.std.specs.List.{flat_map}
 use Rattle.sm_base.specs.declared.numbers.Ident.{Ident}
-use Rattle.sm_defs.specs.Words.{Among}
+use Rattle.sm_defs.specs.Places.{StandsAt, OnePlace}
 use Rattle.sm_model.specs.declared.world.WorldVolume.{WorldVolume}
 use Rattle.sm_model.specs.declared.world.WorldSnapshot.{WorldSnapshot}
 use Rattle.sm_shape.specs.Takes.{Takes}
 
--- this number stands at this place of one of the maps
-pub record StandsAt (maps : List (List ℕ)) (number place : ℕ) : Type 0 where
-  pub in_map : List ℕ
-  pub is_map : Among maps in_map
-  pub in_range : place < length in_map
-  pub here : slice_index in_map place ≡ number
-
 -- a number but 0 stands at one place alone, and is in the table
 pub record AtOnePlace (most : ℕ) (maps : List (List ℕ)) : Type 0 where
-  pub one_place : (number p q : ℕ) → number ≢ 0 → StandsAt maps number p → StandsAt maps number q → p ≡ q
+  pub one_place : OnePlace maps
   pub in_range : (number p : ℕ) → number ≢ 0 → StandsAt maps number p → number < most
 
 pub record IsTableOf (most : ℕ) (table : List ℕ) (maps : List (List ℕ)) : Type 0 where

@@ -15,36 +15,13 @@ use crate::kept::is_ruled;
 use sm_base::limits::{MOST_KEPT, MOST_RULES};
 use sm_base::{Path1, PolicyKind};
 use sm_model::{WorldPolicy, WorldRule};
+use sm_policy::{is_bad_keep, is_wrong_rule};
 
 /// A policy's name keeps to the grammar.
 fn name_is_spelled(name: &Path1)
     ensures { is_part name.now ≡ true }
 {
     let _text = name.text();
-}
-
-fn is_mirror_label(label: &[u8]) -> bool
-    ensures { result ≡ is_label_of_mirrors label.now }
-{
-    label == b"sm_created".as_slice() || label == b"all_source_snapshots".as_slice()
-}
-
-fn is_wrong_rule(kind: PolicyKind, label: &[u8], preserve: bool) -> bool
-    ensures { result ≡ is_rule_wrong kind label.now preserve }
-{
-    match kind {
-        PolicyKind::AsyncMirror => !is_mirror_label(label) || preserve,
-        PolicyKind::Vault => is_mirror_label(label),
-    }
-}
-
-fn is_bad_keep(kind: PolicyKind, keep: u32) -> bool
-    ensures { result ≡ is_keep_bad kind keep }
-{
-    match kind {
-        PolicyKind::AsyncMirror => keep != 1,
-        PolicyKind::Vault => keep == 0 || keep > MOST_KEPT,
-    }
 }
 
 /// Whether the label has no rule yet.

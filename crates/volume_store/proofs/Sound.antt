@@ -12,7 +12,8 @@ use Rattle.sm_defs.proofs.Members.{among_append, among_each as all_at, among_map
 use Rattle.sm_defs.proofs.Keys.{differ_filter, differ_push}
 use Rattle.sm_root.specs.declared.root.Root.{Root}
 use Rattle.sm_root.specs.declared.root.RootSnapshot.{RootSnapshot}
-use Rattle.sm_root.specs.Condition.{IsRoot, IsSnapshot, StandsAt, ident_of, map_of, maps_of}
+use Rattle.sm_defs.specs.Places.{StandsAt}
+use Rattle.sm_root.specs.Condition.{IsRoot, IsSnapshot, ident_of, map_of, maps_of}
 use Rattle.volume_store.specs.Maps.{Maps, AreMapsOf, all_maps}
 use Rattle.sm_root.specs.declared.head.Head.{Head}
 use Rattle.sm_root.specs.Condition.{snapshot_of, IsHead}
@@ -178,11 +179,6 @@ next_counted m good i le = (
 
 pub head_fits : (h : Head) → IsHead h → (map : List ℕ) (logical : ℕ) → length map ≡ logical → IsSnapshot logical (snapshot_of h map)
 head_fits h is map logical long = record { ident = is.ident; name = is.name; label = is.label; time = is.time; made = is.made; long = long }
-
-pub among_take : {X : Type 0} (n : ℕ) (xs : List X) (x : X) → Among (take n xs) x → Among xs x
-among_take zero xs x is = absurd is
-among_take (suc n) [] x is = absurd is
-among_take (suc n) (y ∷ ys) x is = ⊎_elim (λ here. inl here) (λ there. inr (among_take n ys x there)) is
 
 pub differ_take : {X K : Type 0} (key : X → K) (n : ℕ) (xs : List X) → KeysDiffer key xs → KeysDiffer key (take n xs)
 differ_take key zero xs differ = tt

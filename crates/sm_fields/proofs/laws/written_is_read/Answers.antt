@@ -1,14 +1,10 @@
 use Rattle.std.proofs.Common.{◌≡◌, ◌<◌, ◌≤◌, ◌+◌, length, Bool, true, false, refl, arith}
 use Rattle.sm_fields.specs.Format.{number, text, truth, identity}
 use Rattle.sm_fields.specs.Grammar.{digits, limit, with_length, truth_digits, identity_digits, IsIdentity}
-use Rattle.sm_fields.proofs.Sizes.{length-digits, length-identity_digits}
+use Rattle.sm_fields.proofs.Sizes.{length-digits, length-truth_digits, length-identity_digits}
 use Rattle.sm_fields.proofs.Spelled.{number_spelled, text_spelled, truth_spelled, identity_spelled}
 use Rattle.sm_fields.proofs.Whole.{spelled_is_read}
 use Rattle.sm_fields.proofs.laws.written_is_read.Goals as goal
-
-length-truth_digits : (v : Bool) → length (truth_digits v) ≡ 1
-length-truth_digits true = refl
-length-truth_digits false = refl
 
 pub returns-clause-numbers : goal.returns-clause-numbers
 returns-clause-numbers c size n at rest lt = spelled_is_read (number size) (λ n. n < limit size) (digits size) (number_spelled size) n at _ rest lt (length-digits size n)

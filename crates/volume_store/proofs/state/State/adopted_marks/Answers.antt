@@ -1,5 +1,6 @@
 use Rattle.std.proofs.Common.{◌≡◌, ◌+◌, List, [], ◌∷◌, Bool, ℕ, length, refl, sym, ◌∙◌, ap, ap₂, subst, arith}
 use Rattle.std.proofs.lemmas.Bool.Decides.{nat_tests}
+use Rattle.std.proofs.lemmas.List.{nil_from_length}
 use Rattle.sm_bits.specs.Places.{union_of}
 use Rattle.volume_store.specs.Maps.{Maps, held_maps, AreUsed}
 use Rattle.volume_store.specs.declared.marks.Marks.{Marks}
@@ -10,10 +11,6 @@ pub united-requires : goal.united-requires
 united-requires c =
     let same : c.args.root.now.physical ≡ c.self.inside.root.physical = c.requires.same ∙ sym (ap (λ (m : Maps). m.root.physical) c.self.view_is) in
     c.in_ok-live.ensures.long ∙ ap (λ n. n + 1) same ∙ sym c.self.invariant.marks.of_snapshots.long
-
-nothing : {X : Type 0} (xs : List X) → length xs ≡ 0 → xs ≡ []
-nothing [] none = refl
-nothing (x ∷ xs) none = absurd (omega (arith, none))
 
 pub returns : goal.returns
 returns c =
@@ -26,4 +23,4 @@ returns c =
     marks_moved (record { held = c.in_ok-held.held; settled = c.in_ok-copy.field-0; live = c.in_ok-live.live })
     (record { held = union_of held c.in_ok-live.live; settled = c.in_ok-live.live; live = c.in_ok-live.live }) root root root.stable root.stable
     (ap₂ (λ (h s : List Bool). let m : Marks = record { held = h; settled = s; live = c.in_ok-live.live } in m) c.in_ok-held.ensures c.in_ok-copy.ensures) refl refl
-    (with_one held c.in_ok-live.live old root c.requires.same of_old live (c.requires.behind (nothing c.args.drops.now none)))
+    (with_one held c.in_ok-live.live old root c.requires.same of_old live (c.requires.behind (nil_from_length c.args.drops.now none)))

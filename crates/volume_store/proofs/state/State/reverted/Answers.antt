@@ -5,7 +5,8 @@ use Rattle.sm_root.specs.declared.root.RootSnapshot.{RootSnapshot}
 use Rattle.sm_root.specs.Condition.{IsRoot, ident_of}
 use Rattle.volume_store.specs.Maps.{Maps, AreMapsOf, all_maps}
 use Rattle.volume_store.specs.Next.{reverted}
-use Rattle.volume_store.proofs.Sound.{maps_reverted, good_reverted, moved_maps, among_take, differ_take, length_take_le}
+use Rattle.sm_defs.proofs.Members.{among_take}
+use Rattle.volume_store.proofs.Sound.{maps_reverted, good_reverted, moved_maps, differ_take, length_take_le}
 use Rattle.volume_store.proofs.state.State.reverted.Goals as goal
 
 abbrev remake : Root → ℕ → Root
