@@ -2,7 +2,7 @@
 use Rattle.std.specs.Prelude.{◌≡◌, ◌⊎◌, ◌≢◌, ℕ, ◌<◌, ◌≤◌, IsTrue, slice_index, List, Result, Ok, Err}
 use Rattle.sm_disk.specs.Image.{Image, part}
 use Rattle.sm_disk.specs.Disk.{DiskState}
-use Rattle.sm_slots.specs.Stored.{Stored, Blank, Record, BadLength, stored, slot_of, slot_start}
+use Rattle.sm_slots.specs.Stored.{Stored, Blank, Record, BadLength, stored, slot_of, slot_start, slots_end}
 use Rattle.sm_register.specs.declared.fault.OpenFault.{OpenFault}
 use Rattle.sm_register.specs.declared.fault.OpenFault.TheVariants.{BadRecord, DiskFault, NoMemory as OutOfMemory}
 use Rattle.sm_register.specs.Registered.{Registered}
@@ -35,10 +35,23 @@ abbrev pub held_of : {D R : Type 0} → Result (Registered D R) (D × OpenFault)
 held_of (Ok v) = Ok v.held
 held_of (Err e) = Err e.1
 
--- the same, where it comes with the slots
-abbrev pub value_of : {S R : Type 0} → Result (S × R) OpenFault → Result R OpenFault
-value_of (Ok p) = Ok p.1
+-- A value that was found on a disk, and the number of its slot.
+pub record FoundValue (R : Type 0) : Type 0 where
+  pub number : ℕ
+  pub value : R
+
+-- the same, where it comes with its slot
+abbrev pub value_of : {R : Type 0} → Result (FoundValue R) OpenFault → Result R OpenFault
+value_of (Ok f) = Ok f.value
 value_of (Err fault) = Err fault
+
+-- the selected slot of the disk shows the value
+pub record IsFoundOn {R : Type 0} (fits : R → Type 0) (shows : R → Stored → Type 0) (s : DiskState) (f : FoundValue R) : Type 0 where
+  pub room : slots_end ≤ s.size
+  pub one_of_two : f.number < 2
+  pub fit : fits f.value
+  pub slot : IsTrue s.told → f.number ≡ slot_of s.seen
+  pub shown : IsTrue s.told → shows f.value (stored s.seen)
 
 -- where what a slot spells fits no value: a length that passes the slot is so at that length, after the magic word in the
 -- slot's first eight bytes

@@ -12,6 +12,7 @@ mod register;
 mod restart;
 
 pub use fault::{DecodeFault, OpenFault};
+pub use finding::{Found, find};
 pub use ready::Ready;
 pub use record::Record;
 pub use register::Register;

@@ -1,15 +1,15 @@
 // The register: a value on a disk.
 ghost use Rattle.std.specs.Prelude.{◌≡◌, ◌≤◌, true, None, IfOk, IfErr, MatchResult, IsTrue};
-ghost use Rattle.sm_disk.specs.Disk.{GoesOn, IsQuiet, IsCounted};
+ghost use Rattle.sm_disk.specs.Disk.{GoesOn, IsQuiet, IsCounted, IsSynced};
 ghost use Rattle.sm_disk.specs.Spared.{Spares};
 ghost use Rattle.sm_slots.specs.Stored.{slots_end, stored};
 ghost use Rattle.sm_slots.specs.Slots.{BehindSlots};
 ghost use Rattle.sm_register.specs.Registered.{IsKept};
-ghost use Rattle.sm_register.specs.Opened.{IsOpenFault, ReadsValue, held_of};
+ghost use Rattle.sm_register.specs.Opened.{IsOpenFault, ReadsValue, IsFoundOn, held_of};
 ghost use Rattle.sm_register.specs.Commits.{Commits};
 
 use crate::fault::OpenFault;
-use crate::finding::find;
+use crate::finding::{Found, find_synced};
 use crate::ready::Ready;
 use crate::record::Record;
 use sm_base::Failed;
@@ -99,15 +99,26 @@ impl<D: Disk, R: Record + Drop> Register<D, R> {
         ensures any_moment { MatchResult result (λ r. GoesOn (D.state disk) (D.state r.disk) (D.state disk).may_leave) (λ e. GoesOn (D.state disk) (D.state e.0) (D.state disk).may_leave) }
     {
         let mut disk = disk;
-        match find(alloc, &mut disk) {
-            Ok((slots, held)) => Ok(Register {
-                disk,
-                slots,
-                held,
-                after: None,
-                up: true,
-            }),
+        match find_synced(alloc, &mut disk) {
+            Ok(found) => Ok(Register::start(disk, found)),
             Err(fault) => Err((disk, fault)),
+        }
+    }
+
+    /// Takes the value that was found on the disk, once all that was written before is on the medium. No
+    /// device is called.
+    pub fn start(disk: D, found: Found<R>) -> Register<D, R>
+        requires found { IsFoundOn R.fits R.shows (D.state disk) found }
+        requires synced { IsSynced (D.state disk) }
+        ensures { result ≡ record { disk = disk; selected = found.number; held = found.value; after = None; up = true } }
+    {
+        let Found { slots, value } = found;
+        Register {
+            disk,
+            slots,
+            held: value,
+            after: None,
+            up: true,
         }
     }
 
