@@ -33,6 +33,7 @@ pub use formed::is_formed;
 pub use given::families_stand;
 pub use interim::is_interim;
 pub use kept::legs_kept;
+pub use marks::{take_map, take_snapshots};
 pub use shape::{interim_shape, shape_but_legs};
 pub use standing::transfers_stand;
 pub use tags::tags_fit;

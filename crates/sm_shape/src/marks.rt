@@ -33,7 +33,7 @@ fn take_place(table: &mut [usize], place: usize, number: u32) -> bool
 }
 
 /// Whether the map's numbers may stand where they do, beside those of the maps before.
-fn take_map(table: &mut [usize], map: &[u32]) -> bool
+pub fn take_map(table: &mut [usize], map: &[u32]) -> bool
     ensures { (most : ℕ) → TakesMaps most table.old table.new (map.now ∷ []) result }
 {
     for place in 0..map.len() {
@@ -45,7 +45,7 @@ fn take_map(table: &mut [usize], map: &[u32]) -> bool
 }
 
 /// The same of the maps of snapshots.
-fn take_snapshots(table: &mut [usize], snapshots: &[WorldSnapshot]) -> bool
+pub fn take_snapshots(table: &mut [usize], snapshots: &[WorldSnapshot]) -> bool
     ensures { (most : ℕ) → TakesMaps most table.old table.new (flat_map one_map snapshots.now) result }
 {
     for snapshot in snapshots {
