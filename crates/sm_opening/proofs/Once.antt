@@ -13,7 +13,7 @@ use Rattle.sm_catroot.specs.Catalog.{Catalog}
 use Rattle.sm_model.specs.Crossed.{Crossed}
 use Rattle.sm_model.specs.declared.world.OpenKind.TheVariants.{NoDisk, Short, Record, Number, Cross, Shape}
 use Rattle.sm_shape.specs.Crossing.{IsFirstCrossing}
-use Rattle.sm_opening.specs.Blanked.{blanked}
+use Rattle.sm_shape.specs.Blanked.{blanked}
 use Rattle.sm_opening.specs.OnDisk.{Disks, AreBytes, Damage, damage, record_start, image_at, world_of, IsCatalogOn, IsCatalogFault, IsCatalogDamage, LiesOn, LiesNowhere, IsVolumeOn, IsRootDamage, IsRecordDamage, IsDiskDamage, IsVolumeDamage, AreVolumesOn, IsFirstDamage, relation_start, IsShaped, IsReadWorld, Spells, IsWholeDamage, IsDamage}
 use Rattle.sm_opening.proofs.RecordsOnce.{one_catalog, catalog_apart, one_break, one_root, root_apart, one_no_root}
 

@@ -1,2 +1,1 @@
-pub mod Blanked
 pub mod OnDisk

@@ -29,7 +29,7 @@ use Rattle.sm_catroot.specs.Spelling.{numbers_digits, numbers_of, volumes_bytes,
 use Rattle.sm_shape.specs.Crossing.{IsFirstCrossing}
 use Rattle.sm_shape.specs.Interim.{IsInterim}
 use Rattle.sm_shape.specs.Shape.{ShapeUp}
-use Rattle.sm_opening.specs.Blanked.{blanked}
+use Rattle.sm_shape.specs.Blanked.{blanked}
 
 -- the disks of a node by their numbers: how many bytes each has, and an image of it
 pub record Disks : Type 0 where

@@ -1,4 +1,5 @@
 pub mod Blank
+pub mod Blanked
 pub mod Marks
 pub mod Copies
 pub mod Takes
