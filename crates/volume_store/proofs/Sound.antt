@@ -8,7 +8,7 @@ use Rattle.sm_base.specs.declared.numbers.Ident.{Ident}
 use Rattle.sm_base.specs.declared.numbers.Kind.{Kind}
 use Rattle.sm_base.specs.declared.limits.TheConstants.{MOST_SNAPSHOTS, LAST_NUMBER}
 use Rattle.sm_defs.specs.Words.{Among, KeysDiffer, has_ident}
-use Rattle.sm_defs.proofs.Members.{among_append, among_each as all_at, among_map, each_among as all_from, from_map as among_map_from}
+use Rattle.sm_defs.proofs.Members.{among_append, among_each as all_at, among_map, among_take, each_among as all_from, from_map as among_map_from}
 use Rattle.sm_defs.proofs.Keys.{differ_filter, differ_push}
 use Rattle.sm_root.specs.declared.root.Root.{Root}
 use Rattle.sm_root.specs.declared.root.RootSnapshot.{RootSnapshot}
