@@ -1,0 +1,12 @@
+mod Pieces
+mod CatalogBrief
+mod RootBrief
+mod Imaged
+mod Blocks
+mod Identities
+mod RootFits
+mod CatalogFits
+mod Shaped
+mod OnDisks
+mod EmptyDisks
+mod Spelled
