@@ -3,7 +3,8 @@ use Rattle.std.proofs.Common.{◌≡◌, ◌≢◌, ℕ, suc, ◌+◌, ◌<◌, 
 use Rattle.std.specs.List.{flat_map}
 use Rattle.std.proofs.lemmas.Bool.{cases_Bool, cases_eq, both_ways}
 use Rattle.std.proofs.lemmas.Bool.Decides.{nat_tests}
-use Rattle.std.proofs.lemmas.List.{get_or-drop, length-drop, nil_from_length, take_all}
+use Rattle.std.proofs.lemmas.List.{get_or-drop, length-drop, drop_all, take_all}
+use Rattle.std.proofs.lemmas.List.Elements.{filter_agree}
 use Rattle.std.proofs.lemmas.List.Sums.{length-filter}
 use Rattle.sm_defs.specs.Image.{Image, tags, stands, distinct}
 use Rattle.sm_defs.specs.Missing.{ascending, is_missing_tag, mirror_cost}
@@ -63,7 +64,7 @@ volume_taken most before first second last active stable maps a b c takes_active
 -- a table that was lent whole and came back
 pub lent : (len : ℕ) (new old : List ℕ) → length new ≡ length old → len ≡ length old → take len (new ++ drop (length new) old) ≡ new
 lent len new old same long =
-    let past : drop (length new) old ≡ [] = nil_from_length (drop (length new) old) (omega (arith, length-drop (length new) old)) in
+    let past : drop (length new) old ≡ [] = drop_all (length new) old (omega arith) in
     let whole : new ++ drop (length new) old ≡ new = ap (λ l. new ++ l) past ∙ append-nil new in
     ap (take len) whole ∙ take_all len new (omega arith)
 
@@ -112,16 +113,12 @@ module _ (most : ℕ) (table : List ℕ) (maps : List (List ℕ)) (is : IsTableO
       at : (k : ℕ) → get_or (drop 1 table) k 0 ≡ get_or table (suc k) 0
       at k = get_or-drop 1 table k 0 ∙ ap (λ n. get_or table n 0) (let e : 1 + k ≡ suc k = omega arith in e)
 
-same_filter : (p q : ℕ → Bool) → ((n : ℕ) → p n ≡ q n) → (xs : List ℕ) → filter p xs ≡ filter q xs
-same_filter p q same [] = refl
-same_filter p q same (x ∷ xs) = rw (same x, same_filter p q same xs) refl
-
 -- what a mirror still has to ship of a leg
 pub cost_counted : (most : ℕ) (table m : List ℕ) (ds : List WorldSnapshot) → IsTableOf most table (flat_map one_map ds) → OnceIn m
     → mirror_cost (blank_image m) (map blank_snapshot ds) ≡ count_by (is_new table) m
 cost_counted most table m ds is once =
     ap (λ ts. length (ascending (filter (is_missing_tag (map blank_snapshot ds)) ts))) (tags_blank m)
-    ∙ (ap (λ l. length (ascending l)) (sym (same_filter (is_new table) (is_missing_tag (map blank_snapshot ds)) same m))
+    ∙ (ap (λ l. length (ascending l)) (sym (filter_agree (is_new table) (is_missing_tag (map blank_snapshot ds)) same m))
     ∙ (once_long (is_new table) refl m once ∙ length-filter (is_new table) m))
   where
     same : (n : ℕ) → is_new table n ≡ is_missing_tag (map blank_snapshot ds) n

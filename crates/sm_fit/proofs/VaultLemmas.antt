@@ -1,5 +1,6 @@
 -- What a vault shipped fits, by its base and its room.
-use Rattle.std.proofs.Common.{◌≡◌, ◌↔◌, ℕ, zero, suc, ◌+◌, ◌<◌, ◌≤◌, Bool, true, false, cond, List, [], ◌∷◌, length, get_or, drop, map, refl, sym, ap, subst, ◌∙◌, arith}
+use Rattle.std.proofs.Common.{◌≡◌, ◌↔◌, ℕ, zero, suc, ◌+◌, ◌<◌, ◌≤◌, Bool, true, false, cond, List, [], ◌∷◌, length, get_or, drop, map, refl, sym, ap, subst, ◌∙◌, arith, drop-cons}
+use Rattle.std.proofs.lemmas.List.{drop_all}
 use Rattle.std.specs.Prelude.{Some}
 use Rattle.std.proofs.lemmas.Bool.{both_ways}
 use Rattle.sm_base.specs.declared.numbers.Ident.{Ident}
@@ -34,11 +35,6 @@ rest_of [] (suc k) = refl
 rest_of (n ∷ ns) zero = refl
 rest_of (n ∷ ns) (suc k) = rest_of ns k
 
-front_of : (leg : List ℕ) (k : ℕ) → k < length leg → drop k leg ≡ get_or leg k 0 ∷ drop (suc k) leg
-front_of [] k lt = absurd (omega arith)
-front_of (n ∷ ns) zero lt = refl
-front_of (n ∷ ns) (suc k) lt = front_of ns k (omega arith)
-
 one_here : (b : Bool) (k : ℕ) (ks : List ℕ) → length (cond b (k ∷ ks) ks) ≡ cond b 1 0 + length ks
 one_here true k ks = omega arith
 one_here false k ks = omega arith
@@ -47,23 +43,14 @@ pub missing_more : (leg base : List ℕ) (k : ℕ) → k < length leg
     → missing_behind leg base k ≡ cond (is_missing_at (get_or leg k 0) (get_or base k 0)) 1 0 + missing_behind leg base (k + 1)
 missing_more leg base k lt =
     let next : suc k ≡ k + 1 = omega arith in
-    ap (λ l. length (missing_from k (blank_image l) (blank_image (drop k base)))) (front_of leg k lt)
+    ap (λ l. length (missing_from k (blank_image l) (blank_image (drop k base)))) (drop-cons leg k 0 lt)
     ∙ one_here (is_missing_at (get_or leg k 0) (first_tag (blank_image (drop k base)))) k (missing_from (suc k) (blank_image (drop (suc k) leg)) (rest (blank_image (drop k base))))
     ∙ ap (λ t. cond (is_missing_at (get_or leg k 0) t) 1 0 + length (missing_from (suc k) (blank_image (drop (suc k) leg)) (rest (blank_image (drop k base))))) (first_of base k)
     ∙ ap (λ b. cond (is_missing_at (get_or leg k 0) (get_or base k 0)) 1 0 + length (missing_from (suc k) (blank_image (drop (suc k) leg)) b)) (rest_of base k)
     ∙ ap (λ j. cond (is_missing_at (get_or leg k 0) (get_or base k 0)) 1 0 + missing_behind leg base j) next
 
 pub none_behind : (leg base : List ℕ) (k : ℕ) → length leg ≤ k → missing_behind leg base k ≡ 0
-none_behind [] base zero past = refl
-none_behind [] base (suc k) past = refl
-none_behind (n ∷ ns) base zero past = absurd (omega arith)
-none_behind (n ∷ ns) base (suc k) past = ap (λ l. length (missing_from (suc k) (blank_image l) (blank_image (drop (suc k) base)))) (dropped ns k (omega arith))
-  where
-    dropped : (ns : List ℕ) (k : ℕ) → length ns ≤ k → drop k ns ≡ []
-    dropped [] zero past = refl
-    dropped [] (suc k) past = refl
-    dropped (n ∷ ns) zero past = absurd (omega arith)
-    dropped (n ∷ ns) (suc k) past = dropped ns k (omega arith)
+none_behind leg base k past = ap (λ l. length (missing_from k (blank_image l) (blank_image (drop k base)))) (drop_all k leg past)
 
 -- ---- of a transfer
 

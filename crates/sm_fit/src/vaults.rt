@@ -1,6 +1,6 @@
 //! The test of what a vault shipped.
 
-ghost use Rattle.std.specs.Prelude.{◌≡◌, ◌↔◌, ◌==◌, IsTrue, IfOk, slice_index};
+ghost use Rattle.std.specs.Prelude.{◌≡◌, ◌↔◌, IsTrue, IfOk, slice_index};
 ghost use Rattle.sm_defs.specs.Volume.{free};
 ghost use Rattle.sm_defs.specs.Missing.{is_missing_at};
 ghost use Rattle.sm_defs.specs.World.{volume_at};

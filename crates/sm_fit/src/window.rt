@@ -1,6 +1,6 @@
 //! The test that what landed is within a running transfer's window.
 
-ghost use Rattle.std.specs.Prelude.{◌≡◌, ◌↔◌, ◌<◌, ◌+◌, ℕ, IsTrue, None};
+ghost use Rattle.std.specs.Prelude.{◌↔◌, ◌<◌, ℕ, IsTrue};
 ghost use Rattle.std.specs.List.{All};
 ghost use Rattle.sm_defs.specs.Words.{Among, Ascends};
 ghost use Rattle.sm_model.specs.LegsFit.{InWindow};

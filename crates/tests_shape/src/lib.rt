@@ -5,6 +5,8 @@
 #[cfg(test)]
 mod mirrors;
 #[cfg(test)]
+mod shipping;
+#[cfg(test)]
 mod telling;
 #[cfg(test)]
 mod vaults;

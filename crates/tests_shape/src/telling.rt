@@ -1,5 +1,6 @@
 // Which parts a world breaks.
 use crate::worlds::world_of;
+use sm_fit::{legs_fit, shape};
 use sm_model::World;
 use sm_shape::{
     copies_named, destinations_stand, families_agree, families_stand, first_crossing, is_formed,
@@ -26,11 +27,21 @@ fn tell(told: &mut String, part: &str, stands: bool) -> Result<(), Fail> {
     Ok(())
 }
 
+/// What was shipped is not asked of a world in which numbers stand at two places.
+fn legs_stand(alloc: Global, world: &World) -> Result<bool, Fail> {
+    let fit = tags_fit(alloc, world)?;
+    if !fit {
+        return Ok(true);
+    }
+    Ok(legs_fit(alloc, world)?)
+}
+
 fn broken(alloc: Global, world: &World) -> Result<String, Fail> {
     let mut told = String::new(alloc);
     if let Some(place) = first_crossing(alloc, world)? {
         write!(&mut told, " cross={place}")?;
     }
+    let before = told.len();
     tell(&mut told, "formed", is_formed(world))?;
     tell(&mut told, "tags", tags_fit(alloc, world)?)?;
     tell(&mut told, "copies", copies_named(alloc, world)?)?;
@@ -40,6 +51,13 @@ fn broken(alloc: Global, world: &World) -> Result<String, Fail> {
     tell(&mut told, "families", families_stand(world))?;
     tell(&mut told, "kept", legs_kept(world))?;
     tell(&mut told, "transfers", transfers_stand(world))?;
+    tell(&mut told, "legs", legs_stand(alloc, world)?)?;
+    let sound = told.len() == before;
+    tell(
+        &mut told,
+        "shape told otherwise",
+        shape(alloc, world)? == sound,
+    )?;
     tell(&mut told, "interim", is_interim(world))?;
     Ok(told)
 }

@@ -95,7 +95,7 @@ const CASES: &[Case] = &[
     Case {
         at: 9,
         line: "transfer 0 1 update - 1 stopped - 0.4 | 1",
-        breaks: " formed interim",
+        breaks: " formed legs interim",
     },
     Case {
         at: 9,
