@@ -1,1 +1,4 @@
 pub mod OnDisk
+pub mod Looked
+pub mod Finding
+pub mod Unlanded

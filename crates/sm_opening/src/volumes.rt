@@ -1,0 +1,36 @@
+// The disks of all volumes are looked at.
+ghost use Rattle.std.specs.Prelude.{◌≡◌, ◌≤◌, [], map, length, IfOk};
+ghost use Rattle.sm_base.specs.declared.limits.TheConstants.{MOST_VOLUMES};
+ghost use Rattle.sm_opening.specs.Looked.{disks_of, AllTold, Looks};
+ghost use Rattle.sm_opening.specs.OnDisk.{AreVolumesOn, IsFirstDamage};
+ghost use Rattle.sm_opening.specs.Finding.{AreVolumesFound, LieApart, root_of};
+
+use crate::fault::OpenFault;
+use crate::volume::find_volume;
+use sm_base::VolNo;
+use sm_catroot::Placed;
+use sm_disk::Disk;
+use std::alloc::Global;
+use volume_store::Found;
+
+/// Finds each volume of the catalogue, by its number.
+pub fn find_volumes<D: Disk>(
+    alloc: Global,
+    disks: &mut [D],
+    placed: &[Placed],
+) -> Result<Vec<Found>, OpenFault>
+    requires few { length placed.now ≤ MOST_VOLUMES }
+
+    ensures looks { Looks D.state (IsFirstDamage (disks_of D.state disks.old) [] 0 placed.now) disks.old disks.new result }
+    ensures apart { IfOk result (λ fs. LieApart (length disks.old) placed.now) }
+    ensures found { IfOk result (λ fs. AreVolumesFound D.state placed.now disks.new fs.items) }
+    ensures volumes { IfOk result (λ fs. AllTold D.state disks.old → AreVolumesOn (disks_of D.state disks.old) [] 0 placed.now (map root_of fs.items)) }
+{
+    let mut founds = Vec::new(alloc);
+    for at in 0..placed.len() {
+        let number = VolNo(at as u32);
+        let found = find_volume(alloc, disks, &placed[..at], &placed[at], number)?;
+        founds.push(found)?;
+    }
+    Ok(founds)
+}
