@@ -29,8 +29,13 @@ pub fn find_volumes<D: Disk>(
     let mut founds = Vec::new(alloc);
     for at in 0..placed.len() {
         let number = VolNo(at as u32);
-        let found = find_volume(alloc, disks, &placed[..at], &placed[at], number)?;
-        founds.push(found)?;
+        let found = match find_volume(alloc, disks, &placed[..at], &placed[at], number) {
+            Ok(found) => found,
+            Err(fault) => return Err(fault),
+        };
+        let Ok(()) = founds.push(found) else {
+            return Err(OpenFault::NoMemory);
+        };
     }
     Ok(founds)
 }
