@@ -30,6 +30,12 @@ module _ {D : Type 0} (state : D → DiskState) (olds : List D) where
   pub size_at : (n : ℕ) (x : D) → slice_get olds n ≡ Some x → slice_get (map (size_of state) olds) n ≡ Some (state x).size
   size_at n x is = slice_get-map (size_of state) olds n ∙ ap (option_map (size_of state)) is
 
+  pub none_on : olds ≡ [] → (k : Catalog) → IsCatalogOn (disks_of state olds) k → ⊥
+  none_on none k on = none-some on.size (sym (ap (λ (l : List D). slice_get (map (size_of state) l) 0) none) ∙ on.is_disk)
+
+  pub short_on : (x : D) → slice_get olds 0 ≡ Some x → (state x).size < SLOTS_END → (k : Catalog) → IsCatalogOn (disks_of state olds) k → ⊥
+  short_on x first less k on = let same = same_Some (state x).size on.size (sym (size_at 0 x first) ∙ on.is_disk) in let room = on.room in omega (arith, less, room, same)
+
   -- there is no disk
   pub no_disk : {A : Type 0} → olds ≡ [] → Looks {A = A} state (IsCatalogDamage (disks_of state olds)) olds olds (Err (Unopened (record { 0 = 0 }) NoDisk))
   no_disk none = record {
@@ -134,3 +140,11 @@ module _ {D : Type 0} (state : D → DiskState) (olds : List D) where
     catalog_found f is =
         let did = subst (λ (z : Result (FoundValue Catalog) register_fault.OpenFault). FindsCatalog (state m.old) z (state m.new)) is m.did in
         (m.new, there_now state 0 (λ s e. FindsCatalog s r e) olds news m, did.found)
+
+    -- a catalogue that is there is found
+    pub whole_fails : (e : register_fault.OpenFault) → r ≡ Err e → AllTold state olds → (k : Catalog) → IsCatalogOn (disks_of state olds) k → Fails (catalog_fault e)
+    whole_fails e is told k on = fails e (subst (λ (z : Result (FoundValue Catalog) register_fault.OpenFault). register.AnswersValue (again k) (register.value_of z)) is ((m.did.exact (told 0 m.old m.was)).good k (subst (λ (c : Image). ShowsCatalog k (stored c)) image_is on.shown)))
+      where
+        fails : (e' : register_fault.OpenFault) → register.Fails e' → Fails (catalog_fault e')
+        fails e' (inl same) = subst (λ (z : register_fault.OpenFault). Fails (catalog_fault z)) (sym same) refl
+        fails e' (inr same) = subst (λ (z : register_fault.OpenFault). Fails (catalog_fault z)) (sym same) tt

@@ -5,6 +5,7 @@ pub mod NoFault
 pub mod VolumesWalk
 pub mod DisksSame
 pub mod Progress
+pub mod RecordsRead
 mod RecordsOnce
-mod Once
+pub mod Once
 pub mod Unlanded

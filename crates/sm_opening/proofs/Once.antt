@@ -23,7 +23,7 @@ over a b less more = omega (arith, less, more)
 module _ (d : Disks) where
   -- ---- disk 0
 
-  the_catalog : (j k : Catalog) → IsCatalogOn d j → IsCatalogOn d k → j ≡ k
+  pub the_catalog : (j k : Catalog) → IsCatalogOn d j → IsCatalogOn d k → j ≡ k
   the_catalog j k a b = one_catalog (stored (d.images 0)) j k a.read b.read a.shown b.shown
 
   -- ---- a volume's disk
@@ -41,7 +41,7 @@ module _ (d : Disks) where
 
   -- ---- the volumes
 
-  the_roots : (before : List Placed) (i : ℕ) (ps : List Placed) (rs ss : List Root) → AreVolumesOn d before i ps rs → AreVolumesOn d before i ps ss → rs ≡ ss
+  pub the_roots : (before : List Placed) (i : ℕ) (ps : List Placed) (rs ss : List Root) → AreVolumesOn d before i ps rs → AreVolumesOn d before i ps ss → rs ≡ ss
   the_roots before i [] [] [] a b = refl
   the_roots before i [] [] (s ∷ ss) a b = absurd b
   the_roots before i [] (r ∷ rs) ss a b = absurd a
@@ -50,7 +50,7 @@ module _ (d : Disks) where
   the_roots before i (p ∷ ps) (r ∷ rs) (s ∷ ss) a b =
       ap (λ (x : Root). x ∷ rs) (the_root before i p r s a.0 b.0) ∙ ap (λ (xs : List Root). s ∷ xs) (the_roots (before ++ p ∷ []) (suc i) ps rs ss a.1 b.1)
 
-  the_parts : (j k : Catalog) (rs ss : List Root) → IsReadWorld d j rs → IsReadWorld d k ss → (j ≡ k) × (rs ≡ ss)
+  pub the_parts : (j k : Catalog) (rs ss : List Root) → IsReadWorld d j rs → IsReadWorld d k ss → (j ≡ k) × (rs ≡ ss)
   the_parts j k rs ss a b =
       let same = the_catalog j k a.catalog b.catalog in
       (same, the_roots [] 0 k.volumes rs ss (subst (λ (x : Catalog). AreVolumesOn d [] 0 x.volumes rs) same a.volumes) b.volumes)

@@ -22,7 +22,7 @@ use Rattle.sm_opening.specs.Finding.{IsVolumeIn, IsVolumeFound, AreVolumesFound,
 use Rattle.sm_opening.specs.OnDisk.{Disks, Damage, IsVolumeOn, IsVolumeDamage, AreVolumesOn, IsFirstDamage}
 use Rattle.sm_opening.proofs.LookLemmas.{unmoved, looked_then, stays_at, told_then}
 use Rattle.sm_opening.proofs.NoFault.{volume_apart}
-use Rattle.sm_opening.proofs.VolumesWalk.{more_volumes, then_fault}
+use Rattle.sm_opening.proofs.VolumesWalk.{more_volumes, then_fault, volumes_apart}
 use Rattle.sm_opening.proofs.DisksSame.{disks_same}
 
 pub get_push : {X : Type 0} (xs : List X) (y : X) (j : ℕ) (z : X) → slice_get (xs ++ y ∷ []) j ≡ Some z → (slice_get xs j ≡ Some z) ⊎ ((j ≡ length xs) × (y ≡ z))
@@ -144,6 +144,13 @@ module _ {D : Type 0} (state : D → DiskState) where
     module _ (e : OpenFault) (looks : Looks {A = FoundMaps} state (IsVolumeDamage (disks_of state mids) (take k ps) k p) mids news (Err e)) where
       of_volume : AllTold state olds → IsDamageOf (IsVolumeDamage d (take k ps) k p) e
       of_volume told = subst (λ (x : Disks). IsDamageOf (IsVolumeDamage x (take k ps) k p) e) (same_disks olds mids before.moves) (looks.faults (still_told olds mids before.moves told))
+
+      pub stops_whole : AllTold state olds → (rs : List Root) → AreVolumesOn d [] 0 ps rs → Fails e
+      stops_whole told rs are = elim (of_volume told) [
+        | inl (f, fault, is) ↦
+            absurd (volumes_apart d [] 0 ps rs f are (subst (λ (l : List Placed). IsFirstDamage d [] 0 l f) (sym whole) (then_fault d [] 0 (take k ps) (drop (k + 1) ps) (map root_of fs) p f (before.volumes told) (subst (λ (n : ℕ). IsVolumeDamage d (take k ps) n p f) (let e = long_front in omega (arith, e)) fault))))
+        | inr fails ↦ fails
+      ]
 
       pub stops : {A : Type 0} → Looks {A = A} state (IsFirstDamage d [] 0 ps) olds news (Err e)
       stops = record {

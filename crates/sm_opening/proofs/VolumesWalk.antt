@@ -4,6 +4,7 @@ use Rattle.std.proofs.lemmas.List.{append-nil, take_more, drop_more, length-take
 use Rattle.sm_root.specs.declared.root.Root.{Root}
 use Rattle.sm_catroot.specs.declared.placed.Placed.{Placed}
 use Rattle.sm_opening.specs.OnDisk.{Disks, Damage, IsVolumeOn, IsVolumeDamage, AreVolumesOn, IsFirstDamage}
+use Rattle.sm_opening.proofs.NoFault.{volume_apart}
 
 module _ (d : Disks) where
   at_place : (P : List Placed → ℕ → Type 0) (before : List Placed) (i : ℕ) (x : Placed) (ps : List Placed) → P (before ++ x ∷ ps) (i + suc (length ps)) → P ((before ++ x ∷ []) ++ ps) (suc i + length ps)
@@ -26,3 +27,10 @@ module _ (d : Disks) where
   then_fault before i (x ∷ ps) qs [] p f are fault = absurd are
   then_fault before i (x ∷ ps) qs (s ∷ rs) p f are fault =
       inr (s, are.0, then_fault (before ++ x ∷ []) (suc i) ps qs rs p f are.1 (at_place (λ l n. IsVolumeDamage d l n p f) before i x ps fault))
+
+  -- volumes that are there have no fault
+  pub volumes_apart : (before : List Placed) (i : ℕ) (ps : List Placed) (rs : List Root) (f : Damage) → AreVolumesOn d before i ps rs → IsFirstDamage d before i ps f → ⊥
+  volumes_apart before i [] rs f are fault = fault
+  volumes_apart before i (p ∷ ps) [] f are fault = are
+  volumes_apart before i (p ∷ ps) (r ∷ rs) f are (inl fault) = volume_apart d before i p r are.0 f fault
+  volumes_apart before i (p ∷ ps) (r ∷ rs) f are (inr (s, on, later)) = volumes_apart (before ++ p ∷ []) (suc i) ps rs f are.1 later

@@ -90,3 +90,15 @@ LieApart count ps = (k : ℕ) (p : Placed) → slice_get ps k ≡ Some p → lie
 pub record AreVolumesFound {D : Type 0} (state : D → DiskState) (ps : List Placed) (ds : List D) (fs : List FoundMaps) : Type 0 where
   pub as_many : length fs ≡ length ps
   pub each : (k : ℕ) (p : Placed) (f : FoundMaps) → slice_get ps k ≡ Some p → slice_get fs k ≡ Some f → IsVolumeFound state (volno k) p ds f
+
+-- ---- the records of a node
+
+pub record ReadRecords : Type 0 where
+  pub catalog : FoundValue Catalog
+  pub founds : List FoundMaps
+
+-- they are on these disks
+pub record IsReadOn {D : Type 0} (state : D → DiskState) (ds : List D) (r : ReadRecords) : Type 0 where
+  pub catalog : IsCatalogFound state ds r.catalog
+  pub volumes : AreVolumesFound state r.catalog.value.volumes ds r.founds
+  pub apart : LieApart (length ds) r.catalog.value.volumes

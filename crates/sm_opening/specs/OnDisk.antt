@@ -197,6 +197,12 @@ IsWholeDamage d k w f =
     ((place : ℕ) × IsFirstCrossing (blanked w) place × (f ≡ damage 0 (record_start (d.images 0) + relation_start k place) Cross))
     ⊎ (Crossed (blanked w) × ¬ (IsShaped (blanked w)) × (f ≡ damage 0 0 Shape))
 
+-- the first fault of the records, each by itself
+abbrev pub IsReadingDamage : Disks → Damage → Type 0
+IsReadingDamage d f =
+    IsCatalogDamage d f
+    ⊎ ((k : Catalog) × IsCatalogOn d k × IsFirstDamage d [] 0 k.volumes f)
+
 -- the first fault of the images
 abbrev pub IsDamage : Disks → Damage → Type 0
 IsDamage d f =

@@ -2,7 +2,7 @@
 ghost use Rattle.std.specs.Prelude.{◌≡◌, ◌≤◌, ◌<◌, length, IfOk, IfErr};
 ghost use Rattle.sm_base.specs.declared.limits.TheConstants.{SLOTS_END as SLOTS};
 ghost use Rattle.sm_disk.specs.Disk.{DiskState};
-ghost use Rattle.sm_opening.specs.Looked.{disks_of, AllTold, OneMoves, IsAt, Looks};
+ghost use Rattle.sm_opening.specs.Looked.{disks_of, AllTold, OneMoves, IsAt, Looks, Fails};
 ghost use Rattle.sm_opening.specs.OnDisk.{IsCatalogOn, IsCatalogDamage};
 ghost use Rattle.sm_opening.specs.Finding.{FindsCatalog, catalog_fault, IsCatalogFound};
 
@@ -49,6 +49,7 @@ fn find_at<D: Disk>(
 /// Finds the catalogue on disk 0.
 pub fn find_catalog<D: Disk>(alloc: Global, disks: &mut [D]) -> Result<Found<Catalog>, OpenFault>
     ensures looks { Looks D.state (IsCatalogDamage (disks_of D.state disks.old)) disks.old disks.new result }
+    ensures whole { AllTold D.state disks.old → (k : _) → IsCatalogOn (disks_of D.state disks.old) k → IfErr result Fails }
     ensures found { IfOk result (λ f. IsCatalogFound D.state disks.new f) }
     ensures catalog { IfOk result (λ f. AllTold D.state disks.old → IsCatalogOn (disks_of D.state disks.old) f.value) }
 {

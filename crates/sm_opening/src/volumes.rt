@@ -1,7 +1,7 @@
 // The disks of all volumes are looked at.
-ghost use Rattle.std.specs.Prelude.{◌≡◌, ◌≤◌, [], map, length, IfOk};
+ghost use Rattle.std.specs.Prelude.{◌≡◌, ◌≤◌, [], map, length, IfOk, IfErr};
 ghost use Rattle.sm_base.specs.declared.limits.TheConstants.{MOST_VOLUMES};
-ghost use Rattle.sm_opening.specs.Looked.{disks_of, AllTold, Looks};
+ghost use Rattle.sm_opening.specs.Looked.{disks_of, AllTold, Looks, Fails};
 ghost use Rattle.sm_opening.specs.OnDisk.{AreVolumesOn, IsFirstDamage};
 ghost use Rattle.sm_opening.specs.Finding.{AreVolumesFound, LieApart, root_of};
 
@@ -22,6 +22,7 @@ pub fn find_volumes<D: Disk>(
     requires few { length placed.now ≤ MOST_VOLUMES }
 
     ensures looks { Looks D.state (IsFirstDamage (disks_of D.state disks.old) [] 0 placed.now) disks.old disks.new result }
+    ensures whole { AllTold D.state disks.old → (rs : _) → AreVolumesOn (disks_of D.state disks.old) [] 0 placed.now rs → IfErr result Fails }
     ensures apart { IfOk result (λ fs. LieApart (length disks.old) placed.now) }
     ensures found { IfOk result (λ fs. AreVolumesFound D.state placed.now disks.new fs.items) }
     ensures volumes { IfOk result (λ fs. AllTold D.state disks.old → AreVolumesOn (disks_of D.state disks.old) [] 0 placed.now (map root_of fs.items)) }

@@ -4,13 +4,18 @@ use Rattle.sm_catroot.specs.declared.placed.Placed.{Placed}
 use Rattle.volume_store.specs.Opened.{FoundMaps}
 use Rattle.sm_opening.specs.OnDisk.{IsFirstDamage}
 use Rattle.sm_opening.specs.Looked.{disks_of}
-use Rattle.sm_opening.proofs.Progress.{Progress, one_more, stops, no_room, all_apart}
+use Rattle.sm_opening.proofs.Progress.{Progress, one_more, stops, stops_whole, no_room, all_apart}
 use Rattle.sm_opening.proofs.LookLemmas.{looked_then}
 use Rattle.sm_opening.proofs.volumes.find_volumes.Goals as goal
 
 pub returns-in-Err-clause-looks : goal.returns-in-Err-clause-looks
 returns-in-Err-clause-looks g c =
     stops g.D.Disk.state c.args.disks.now c.args.placed.now c.loop-at.at c.loop-at.disks c.loop-at.founds.items c.loop-at.invariant c.index-placed-at.result (slice_get-get_or c.args.placed.now c.loop-at.at c.index-placed-at.result c.loop-at-test.true ∙ ap (λ (p : Placed). Some p) (sym c.index-placed-at.is))
+    c.find_volume.new.disks c.in-Err.fault c.in-Err.ensures.looks
+
+pub returns-in-Err-clause-whole : goal.returns-in-Err-clause-whole
+returns-in-Err-clause-whole g c =
+    stops_whole g.D.Disk.state c.args.disks.now c.args.placed.now c.loop-at.at c.loop-at.disks c.loop-at.founds.items c.loop-at.invariant c.index-placed-at.result (slice_get-get_or c.args.placed.now c.loop-at.at c.index-placed-at.result c.loop-at-test.true ∙ ap (λ (p : Placed). Some p) (sym c.index-placed-at.is))
     c.find_volume.new.disks c.in-Err.fault c.in-Err.ensures.looks
 
 pub returns-in_default-clause-looks : goal.returns-in_default-clause-looks
