@@ -8,3 +8,5 @@ pub mod Progress
 mod RecordsOnce
 mod Once
 pub mod Unlanded
+pub mod BareLemmas
+pub mod JudgeLemmas
