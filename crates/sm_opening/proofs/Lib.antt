@@ -9,3 +9,5 @@ pub mod RecordsRead
 mod RecordsOnce
 pub mod Once
 pub mod Unlanded
+pub mod BareLemmas
+pub mod JudgeLemmas

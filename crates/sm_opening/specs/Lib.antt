@@ -2,3 +2,5 @@ pub mod OnDisk
 pub mod Looked
 pub mod Finding
 pub mod Unlanded
+pub mod Bare
+pub mod Judged

@@ -3,11 +3,13 @@
 
 mod catalog;
 mod fault;
+mod judging;
 mod laws;
 mod lying;
 mod records;
 mod volume;
 mod volumes;
+mod worlds;
 
 pub use fault::OpenFault;
 pub use laws::{a_fault_is_named_once, a_world_has_no_fault, a_world_is_spelled_once};
