@@ -8,3 +8,4 @@ pub mod Progress
 mod RecordsOnce
 mod Once
 pub mod Unlanded
+pub mod SyncLemmas

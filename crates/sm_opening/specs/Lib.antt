@@ -2,3 +2,4 @@ pub mod OnDisk
 pub mod Looked
 pub mod Finding
 pub mod Unlanded
+pub mod Syncing

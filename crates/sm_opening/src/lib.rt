@@ -5,6 +5,7 @@ mod catalog;
 mod fault;
 mod laws;
 mod lying;
+mod syncing;
 mod volume;
 mod volumes;
 
@@ -12,3 +13,4 @@ pub use catalog::find_catalog;
 pub use fault::OpenFault;
 pub use laws::{a_fault_is_named_once, a_world_has_no_fault, a_world_is_spelled_once};
 pub use volumes::find_volumes;
+pub use syncing::sync_all;
