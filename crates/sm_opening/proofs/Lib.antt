@@ -11,3 +11,5 @@ pub mod Once
 pub mod Unlanded
 pub mod BareLemmas
 pub mod JudgeLemmas
+pub mod SyncLemmas
+pub mod WholeLooks

@@ -4,3 +4,5 @@ pub mod Finding
 pub mod Unlanded
 pub mod Bare
 pub mod Judged
+pub mod Syncing
+pub mod Whole

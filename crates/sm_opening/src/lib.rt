@@ -5,12 +5,15 @@ mod catalog;
 mod fault;
 mod judging;
 mod laws;
+mod looking;
 mod lying;
 mod records;
+mod syncing;
 mod volume;
 mod volumes;
 mod worlds;
 
 pub use fault::OpenFault;
 pub use laws::{a_fault_is_named_once, a_world_has_no_fault, a_world_is_spelled_once};
-pub use records::{Records, read_records};
+pub use looking::look;
+pub use records::Records;
