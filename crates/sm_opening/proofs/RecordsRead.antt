@@ -31,8 +31,8 @@ module _ {D : Type 0} (state : D → DiskState) (olds mids : List D) where
   d = disks_of state olds
 
   -- no catalogue is found
-  module _ {A : Type 0} (e : OpenFault) (looks : Looks {A = FoundValue Catalog} state (IsCatalogDamage d) olds mids (Err e)) (whole : AllTold state olds → (k : Catalog) → IsCatalogOn d k → Fails e) where
-    pub no_catalog : Looks {A = A} state (IsReadingDamage d) olds mids (Err e)
+  module _ (e : OpenFault) (looks : Looks {A = FoundValue Catalog} state (IsCatalogDamage d) olds mids (Err e)) (whole : AllTold state olds → (k : Catalog) → IsCatalogOn d k → Fails e) where
+    pub no_catalog : {A : Type 0} → Looks {A = A} state (IsReadingDamage d) olds mids (Err e)
     no_catalog = record {
       moves = looks.moves;
       counted = looks.counted;
@@ -54,9 +54,9 @@ module _ {D : Type 0} (state : D → DiskState) (olds mids : List D) where
     tells = still_told state olds mids looks.moves
 
     -- a volume is not found
-    module _ {B A : Type 0} (e : OpenFault) (then : Looks {A = B} state (IsFirstDamage (disks_of state mids) [] 0 f.value.volumes) mids news (Err e))
+    module _ {B : Type 0} (e : OpenFault) (then : Looks {A = B} state (IsFirstDamage (disks_of state mids) [] 0 f.value.volumes) mids news (Err e))
         (whole : AllTold state mids → (rs : List Root) → AreVolumesOn (disks_of state mids) [] 0 f.value.volumes rs → Fails e) where
-      pub no_volumes : Looks {A = A} state (IsReadingDamage d) olds news (Err e)
+      pub no_volumes : {A : Type 0} → Looks {A = A} state (IsReadingDamage d) olds news (Err e)
       no_volumes = record {
         moves = looked_then state olds mids news looks.moves then.moves;
         counted = counted_since state olds mids news e looks.moves then.counted;

@@ -7,6 +7,8 @@ use Rattle.sm_opening.specs.declared.fault.OpenFault.{OpenFault}
 use Rattle.sm_opening.specs.Looked.{disks_of, size_of, AllTold, EachMoves, IsLookedAt, Looks, IsDamageOf, AnswersDamage, IsFaultCounted, Fails}
 use Rattle.sm_opening.specs.Finding.{ReadRecords, root_of}
 use Rattle.sm_opening.specs.OnDisk.{Disks, Damage, world_of, IsReadWorld, IsReadingDamage, IsWholeDamage, IsDamage, Spells}
+use Rattle.sm_opening.specs.declared.fault.OpenFault.TheVariants.{Unopened, NoMemory as OutOfMemory}
+use Rattle.sm_opening.specs.Judged.{IsNoDiskFault}
 use Rattle.sm_opening.specs.Whole.{world_on, IsSoundOn}
 use Rattle.sm_opening.proofs.Once.{the_parts}
 use Rattle.sm_opening.proofs.Progress.{same_disks}
@@ -15,9 +17,14 @@ module _ {D : Type 0} (state : D → DiskState) (olds news : List D) where
   abbrev d : Disks
   d = disks_of state olds
 
+  -- what no disk failed in counts nothing
+  pub not_counted : (e : OpenFault) → IsNoDiskFault e → IsFaultCounted state olds news e
+  not_counted (Unopened disk kind) free = λ is. absurd (free is)
+  not_counted OutOfMemory free = tt
+
   -- the records are not read
-  module _ {B A : Type 0} (e : OpenFault) (looks : Looks {A = B} state (IsReadingDamage d) olds news (Err e)) (whole : AllTold state olds → (k : Catalog) (rs : List Root) → IsReadWorld d k rs → Fails e) where
-    pub unread : Looks {A = A} state (IsDamage d) olds news (Err e)
+  module _ {B : Type 0} (e : OpenFault) (looks : Looks {A = B} state (IsReadingDamage d) olds news (Err e)) (whole : AllTold state olds → (k : Catalog) (rs : List Root) → IsReadWorld d k rs → Fails e) where
+    pub unread : {A : Type 0} → Looks {A = A} state (IsDamage d) olds news (Err e)
     unread = record {
       moves = looks.moves;
       counted = looks.counted;

@@ -1,10 +1,9 @@
 // The disks of a node are looked at, each by itself and all together.
-ghost use Rattle.std.specs.Prelude.{◌≡◌, map, IfOk};
-ghost use Rattle.sm_model.specs.Crossed.{Crossed};
-ghost use Rattle.sm_shape.specs.Blanked.{blanked};
-ghost use Rattle.sm_opening.specs.Looked.{disks_of, size_of, AllTold, Looks};
-ghost use Rattle.sm_opening.specs.OnDisk.{IsDamage, Spells, IsShaped};
+ghost use Rattle.std.specs.Prelude.{◌≡◌, map, IfOk, IfErr, OnOk};
+ghost use Rattle.sm_opening.specs.Looked.{disks_of, size_of, AllTold, Looks, IsDamageOf, AnswersDamage};
+ghost use Rattle.sm_opening.specs.OnDisk.{Disks, Damage, IsDamage, IsWholeDamage, Spells};
 ghost use Rattle.sm_opening.specs.Finding.{IsReadOn};
+ghost use Rattle.sm_opening.specs.Judged.{IsNoDiskFault};
 ghost use Rattle.sm_opening.specs.Whole.{IsSoundOn, world_on};
 
 use crate::fault::OpenFault;
@@ -19,10 +18,20 @@ fn lengths_of<D: Disk>(alloc: Global, disks: &[D]) -> Result<Vec<u64>, NoMemory>
     ensures { IfOk result (λ lengths. lengths.items ≡ map (size_of D.state) disks.now) }
 {
     let mut lengths = Vec::new(alloc);
-    for disk in disks {
-        lengths.push(disk.len())?;
+    for at in 0..disks.len() {
+        lengths.push(disks[at].len())?;
     }
     Ok(lengths)
+}
+
+// What is wrong with the records together.
+fn judge_records(alloc: Global, records: &Records, lengths: &[u64]) -> Result<(), OpenFault>
+    ensures judged { OnOk result (IsSoundOn lengths.now records.now) }
+    ensures faults { IfErr result (λ e. (d : Disks) → d.sizes ≡ lengths.now → IsDamageOf (IsWholeDamage d records.now.catalog.value (world_on d records.now)) e) }
+    ensures exact { (d : Disks) → d.sizes ≡ lengths.now → (f : Damage) → IsWholeDamage d records.now.catalog.value (world_on d records.now) f → AnswersDamage f result }
+    ensures free { IfErr result IsNoDiskFault }
+{
+    judge(alloc, records.catalog(), records.founds(), lengths)
 }
 
 /// Reads the records of a node from its disks, and how many bytes each disk has. Whatever it answers, it
@@ -48,7 +57,7 @@ pub fn look<D: Disk>(alloc: Global, disks: &mut [D]) -> Result<(Records, Vec<u64
     let Ok(lengths) = lengths_of(alloc, disks) else {
         return Err(OpenFault::NoMemory);
     };
-    match judge(alloc, records.catalog.value(), &records.founds, &lengths) {
+    match judge_records(alloc, &records, &lengths) {
         Ok(()) => Ok((records, lengths)),
         Err(fault) => Err(fault),
     }

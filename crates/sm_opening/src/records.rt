@@ -7,7 +7,7 @@ ghost use Rattle.sm_opening.specs.Finding.{ReadRecords, IsReadOn, root_of};
 use crate::catalog::find_catalog;
 use crate::fault::OpenFault;
 use crate::volumes::find_volumes;
-use sm_catroot::Catalog;
+use sm_catroot::{Catalog, Placed};
 use sm_disk::Disk;
 use sm_register::Found;
 use std::alloc::Global;
@@ -29,6 +29,29 @@ impl Model for Records {
     ghost view = { λ r. record { catalog = r.catalog; founds = r.founds.items } };
 }
 
+impl Records {
+    /// What disk 0 keeps.
+    pub fn catalog(&self) -> &Catalog
+        ensures { result.now ≡ self.now.catalog.value }
+    {
+        self.catalog.value()
+    }
+
+    /// The volumes, each at the place of its number.
+    pub fn founds(&self) -> &[FoundVolume]
+        ensures { result.now ≡ self.now.founds }
+    {
+        &self.founds
+    }
+}
+
+// Where the catalogue says that its volumes lie.
+fn volumes_of(catalog: &Catalog) -> &[Placed]
+    ensures { result.now ≡ catalog.now.volumes }
+{
+    &catalog.volumes
+}
+
 /// Finds the catalogue and the volumes that it names.
 pub fn read_records<D: Disk>(alloc: Global, disks: &mut [D]) -> Result<Records, OpenFault>
     ensures looks { Looks D.state (IsReadingDamage (disks_of D.state disks.old)) disks.old disks.new result }
@@ -40,7 +63,7 @@ pub fn read_records<D: Disk>(alloc: Global, disks: &mut [D]) -> Result<Records, 
         Ok(catalog) => catalog,
         Err(fault) => return Err(fault),
     };
-    match find_volumes(alloc, disks, &catalog.value().volumes) {
+    match find_volumes(alloc, disks, volumes_of(catalog.value())) {
         Ok(founds) => Ok(Records { catalog, founds }),
         Err(fault) => Err(fault),
     }
