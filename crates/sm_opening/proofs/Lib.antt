@@ -13,3 +13,4 @@ pub mod BareLemmas
 pub mod JudgeLemmas
 pub mod SyncLemmas
 pub mod WholeLooks
+pub mod SeatLemmas

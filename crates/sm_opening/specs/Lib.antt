@@ -6,3 +6,4 @@ pub mod Bare
 pub mod Judged
 pub mod Syncing
 pub mod Whole
+pub mod Seating

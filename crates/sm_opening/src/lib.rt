@@ -8,6 +8,7 @@ mod laws;
 mod looking;
 mod lying;
 mod records;
+mod seating;
 mod syncing;
 mod volume;
 mod volumes;
