@@ -28,3 +28,8 @@ IsWrong w e =
     ((place : ℕ) × IsFirstCrossing w place × (e ≡ of_whole Cross))
     ⊎ (Crossed w × ¬ (IsShaped w) × (e ≡ of_whole Shape))
     ⊎ (e ≡ OutOfMemory)
+
+-- a failure of a disk
+abbrev pub IsDiskFault : OpenFault → Type 0
+IsDiskFault (Unopened disk kind) = kind ≡ Fault
+IsDiskFault OutOfMemory = ⊥

@@ -7,3 +7,4 @@ pub mod Judged
 pub mod Syncing
 pub mod Whole
 pub mod Seating
+pub mod Opening

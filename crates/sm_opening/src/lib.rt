@@ -7,6 +7,7 @@ mod judging;
 mod laws;
 mod looking;
 mod lying;
+mod opening;
 mod records;
 mod seating;
 mod syncing;

@@ -2,7 +2,8 @@
 ghost use Rattle.std.specs.Prelude.{◌≡◌, ◌<◌, length, IfErr, OnOk};
 ghost use Rattle.sm_model.specs.declared.world.OpenKind.TheVariants.{Fault};
 ghost use Rattle.sm_opening.specs.declared.fault.OpenFault.TheVariants.{Unopened};
-ghost use Rattle.sm_opening.specs.Looked.{OneMoves, EachMoves, IsKeptOn, IsFaultCounted, Fails};
+ghost use Rattle.sm_opening.specs.Looked.{OneMoves, EachMoves, IsKeptOn, IsFaultCounted};
+ghost use Rattle.sm_opening.specs.Judged.{IsDiskFault};
 ghost use Rattle.sm_opening.specs.Finding.{LieApart};
 ghost use Rattle.sm_opening.specs.Syncing.{SyncsDisk, AllSynced};
 
@@ -47,7 +48,7 @@ pub fn sync_all<D: Disk>(disks: &mut [D], placed: &[Placed]) -> Result<(), OpenF
     ensures moves { EachMoves D.state IsKeptOn disks.old disks.new }
     ensures synced { OnOk result (AllSynced D.state placed.now disks.new) }
     ensures counted { IfErr result (IsFaultCounted D.state disks.old disks.new) }
-    ensures faults { IfErr result Fails }
+    ensures faults { IfErr result IsDiskFault }
 {
     sync_numbered(disks, DiskNo(0))?;
     for volume in placed {
