@@ -1,7 +1,7 @@
 -- Disks that are taken to their places, one after the other.
-use Rattle.std.proofs.Common.{◌≡◌, ◌≢◌, ℕ, zero, suc, ◌+◌, ◌<◌, ◌≤◌, List, [], ◌∷◌, ◌++◌, length, map, Option, Some, None, slice_get, slice_set, refl, sym, ap, subst, ◌∙◌, inl, inr, arith, IsTrue}
-use Rattle.std.specs.Prelude.{◌⊎◌, ◌==◌, ◌&&◌, not, nat_lt, take, Bool, true, false, cond}
-use Rattle.std.specs.List.{list_any, AllByRecursion}
+use Rattle.std.proofs.Common.{◌≡◌, ◌≢◌, ℕ, zero, suc, ◌+◌, ◌<◌, ◌≤◌, List, [], ◌∷◌, ◌++◌, length, map, Option, Some, None, slice_get, slice_set, refl, sym, ap, subst, ◌∙◌, inl, inr, arith}
+use Rattle.std.specs.Prelude.{◌⊎◌, ◌==◌, ◌&&◌, not, nat_lt, take, true, false}
+use Rattle.std.specs.List.{list_any}
 use Rattle.std.specs.Option.{option_map}
 use Rattle.std.proofs.lemmas.Bool.{cases_lt, cases_eq, cases_Bool, and_parts, not-true, eqb-true, true≢false}
 use Rattle.std.proofs.lemmas.Bool.Decides.{nat_tests}
@@ -15,14 +15,12 @@ use Rattle.sm_register.specs.Opened.{FoundValue}
 use Rattle.sm_register.specs.Registered.{Registered, registered}
 use Rattle.sm_catroot.specs.declared.placed.Placed.{Placed}
 use Rattle.sm_catroot.specs.Catalog.{Catalog}
-use Rattle.sm_model.specs.Answers.{volno}
-use Rattle.sm_base.specs.declared.numbers.VolNo.{VolNo}
 use Rattle.volume_store.specs.Opened.{FoundMaps}
 use Rattle.sm_volume.specs.Kept.{IsKept}
 use Rattle.sm_node.specs.Seats.{Seated, disk_number, device, AreAtSeats, IsAtSeat}
-use Rattle.sm_node.specs.Nodes.{Node, IsNode, IsUp, IsLaidOut, numbers}
+use Rattle.sm_node.specs.Nodes.{IsNode, IsLaidOut, numbers}
 use Rattle.sm_opening.specs.Looked.{size_of}
-use Rattle.sm_opening.specs.Finding.{lies_apart, LieApart, AreVolumesFound}
+use Rattle.sm_opening.specs.Finding.{LieApart, AreVolumesFound}
 use Rattle.sm_opening.specs.Syncing.{AreSynced}
 use Rattle.sm_opening.specs.Seating.{IsSeatFrom, IsSeatOf, IsReady, AreReady, AreSeated, IsMadeOf}
 use Rattle.sm_opening.proofs.LookLemmas.{get_set_same}
