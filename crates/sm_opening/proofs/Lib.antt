@@ -14,3 +14,4 @@ pub mod JudgeLemmas
 pub mod SyncLemmas
 pub mod WholeLooks
 pub mod SeatLemmas
+pub mod OpenLemmas

@@ -90,3 +90,6 @@ module _ {D : Type 0} (state : D → DiskState) where
       let x : D = get_or olds n y in
       let there : slice_get olds n ≡ Some x = slice_get-get_or olds n y (let lt = slice_get_within news n y is in let long = m.as_long in omega (arith, lt, long)) in
       subst IsTrue (sym (same (state x) (state y) (m.each n x y there is))) (told n x there)
+
+  pub only_kept : (olds news : List D) → EachMoves state IsLookedAt olds news → EachMoves state IsKeptOn olds news
+  only_kept olds news m = record { as_long = m.as_long; each = λ n x y was is. looked_kept (state x) (state y) (m.each n x y was is) }

@@ -7,7 +7,7 @@ ghost use Rattle.sm_opening.specs.Opening.{IsReadyOn, Opens, without_disks};
 
 use crate::fault::OpenFault;
 use crate::looking::look;
-use crate::records::Records;
+use crate::records::{Records, volumes_of};
 use crate::seating::seat;
 use crate::syncing::sync_all;
 use sm_disk::Disk;
@@ -46,7 +46,7 @@ fn prepare<D: Disk + Drop>(alloc: Global, disks: &mut [D]) -> Result<Parts<D>, O
     let Ok(seats) = Vec::with_capacity(alloc, records.founds().len()) else {
         return Err(OpenFault::NoMemory);
     };
-    match sync_all(disks, &records.catalog().volumes) {
+    match sync_all(disks, volumes_of(records.catalog())) {
         Ok(()) => Ok(Parts {
             records,
             lengths,
@@ -54,5 +54,38 @@ fn prepare<D: Disk + Drop>(alloc: Global, disks: &mut [D]) -> Result<Parts<D>, O
             seats,
         }),
         Err(fault) => Err(fault),
+    }
+}
+
+/// Opens the node whose disks these are, each at the place of its number: disk 0 has the catalogue, or is
+/// blank for a node on which nothing was created. What was written before is put onto the media, once
+/// nothing else can refuse.
+///
+/// # Errors
+///
+/// The disks come back, each in its place. [`OpenFault::Unopened`] with the disk and the kind of the first
+/// fault: disk 0, the volumes by number, the relationships by number, the shape of the whole; where the
+/// disks tell their content it comes exactly there, but for a failure of a disk and want of memory. No disk
+/// is changed then. [`OpenKind::Fault`](sm_model::OpenKind::Fault) only where that disk's count of faults
+/// rose in this call; no disk reads otherwise then, and a restart may leave nothing new.
+pub fn open<D: Disk + Drop>(alloc: Global, disks: Vec<D>) -> Result<Node<D>, (Vec<D>, OpenFault)>
+    ensures opens { IfOk result (λ n. Opens D.state disks.items n) }
+    ensures moves { IfErr result (λ e. EachMoves D.state IsKeptOn disks.items e.0.items) }
+    ensures quiet { IfErr result (λ e. IsNoDiskFault e.1 → EachMoves D.state IsLookedAt disks.items e.0.items) }
+    ensures counted { IfErr result (λ e. IsFaultCounted D.state disks.items e.0.items e.1) }
+    ensures faults { IfErr result (λ e. AllTold D.state disks.items → IsDamageOf (IsDamage (disks_of D.state disks.items)) e.1) }
+    ensures exact { AllTold D.state disks.items → (f : Damage) → IsDamage (disks_of D.state disks.items) f → AnswersDamage f (without_disks result) }
+{
+    let mut disks = disks;
+    match prepare(alloc, &mut disks) {
+        Ok(parts) => Ok(seat(
+            disks,
+            parts.spares,
+            parts.seats,
+            parts.lengths,
+            parts.records.catalog,
+            parts.records.founds,
+        )),
+        Err(fault) => Err((disks, fault)),
     }
 }

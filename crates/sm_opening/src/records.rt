@@ -45,8 +45,8 @@ impl Records {
     }
 }
 
-// Where the catalogue says that its volumes lie.
-fn volumes_of(catalog: &Catalog) -> &[Placed]
+/// Where the catalogue says that its volumes lie.
+pub fn volumes_of(catalog: &Catalog) -> &[Placed]
     ensures { result.now ≡ catalog.now.volumes }
 {
     &catalog.volumes
