@@ -1,5 +1,5 @@
 -- A volume and the number of its disk.
-use Rattle.std.specs.Prelude.{◌≡◌, ℕ, List, map, true, Some, slice_get}
+use Rattle.std.specs.Prelude.{◌≡◌, ℕ, List, true, Some, slice_get}
 use Rattle.sm_disk.specs.Disk.{DiskState}
 use Rattle.sm_model.specs.Answers.{volno}
 use Rattle.sm_volume.specs.Kept.{IsKept}

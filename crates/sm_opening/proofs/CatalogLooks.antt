@@ -1,5 +1,5 @@
 -- What is answered of disk 0.
-use Rattle.std.proofs.Common.{◌≡◌, ℕ, ◌+◌, [], ◌<◌, ◌≤◌, List, length, Option, Some, None, Result, Ok, Err, slice_get, refl, sym, ap, subst, ◌∙◌, inl, inr, arith, IsTrue}
+use Rattle.std.proofs.Common.{◌≡◌, ℕ, ◌+◌, [], ◌<◌, ◌≤◌, List, Some, Result, Ok, Err, slice_get, refl, sym, ap, subst, ◌∙◌, inl, inr, arith, IsTrue}
 use Rattle.std.specs.Option.{option_map}
 use Rattle.std.specs.Prelude.{map}
 use Rattle.std.proofs.lemmas.Option.{same_Some, none-some, slice_get-map}
@@ -14,12 +14,12 @@ use Rattle.sm_register.specs.declared.fault.OpenFault.TheVariants.{BadRecord, Di
 use Rattle.sm_catroot.specs.Catalog.{Catalog}
 use Rattle.sm_catroot.specs.Condition.{again}
 use Rattle.sm_catroot.specs.Kept.{ShowsCatalog}
-use Rattle.sm_model.specs.declared.world.OpenKind.TheVariants.{NoDisk, Short, Record, Fault}
+use Rattle.sm_model.specs.declared.world.OpenKind.TheVariants.{NoDisk, Short, Record}
 use Rattle.sm_opening.specs.declared.fault.OpenFault.{OpenFault}
-use Rattle.sm_opening.specs.declared.fault.OpenFault.TheVariants.{Unopened, NoMemory as OutOfMemory}
+use Rattle.sm_opening.specs.declared.fault.OpenFault.TheVariants.{Unopened}
 use Rattle.sm_opening.specs.Looked.{disks_of, seen_of, size_of, AllTold, OneMoves, IsLookedAt, Looks, IsDamageOf, AnswersDamage, IsFaultCounted, Fails, unopened}
 use Rattle.sm_opening.specs.Finding.{FindsCatalog, IsCatalogFound, catalog_fault}
-use Rattle.sm_opening.specs.OnDisk.{Disks, Damage, damage, record_start, IsCatalogOn, IsNoCatalogOn, IsCatalogDamage}
+use Rattle.sm_opening.specs.OnDisk.{Damage, damage, record_start, IsCatalogOn, IsNoCatalogOn, IsCatalogDamage}
 use Rattle.sm_opening.proofs.LookLemmas.{unmoved, one_looked, there_now}
 
 abbrev pub answered : Result (FoundValue Catalog) register_fault.OpenFault → Result (FoundValue Catalog) OpenFault

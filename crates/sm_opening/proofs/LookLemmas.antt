@@ -1,9 +1,8 @@
 -- Disks that are looked at, one after the other.
-use Rattle.std.proofs.Common.{◌≡◌, ℕ, zero, suc, ◌<◌, List, [], ◌∷◌, length, get_or, Option, Some, None, slice_get, slice_set, refl, sym, ap, subst, ◌∙◌, inl, inr, arith, IsTrue}
+use Rattle.std.proofs.Common.{◌≡◌, ℕ, zero, suc, List, [], ◌∷◌, length, get_or, Some, slice_get, slice_set, refl, sym, ap, subst, ◌∙◌, inl, inr, arith, IsTrue}
 use Rattle.std.proofs.lemmas.List.{length-set}
 use Rattle.std.proofs.lemmas.Option.{same_Some, slice_get_within, slice_get-get_or}
 use Rattle.sm_defs.proofs.Members.{get_set}
-use Rattle.sm_disk.specs.Image.{Image}
 use Rattle.sm_disk.specs.Disk.{DiskState, GoesOn}
 use Rattle.sm_disk.proofs.Moments.{begun, joined, weaker, at_end}
 use Rattle.sm_disk.proofs.Calls.{quiet_begun, quiet_joined}

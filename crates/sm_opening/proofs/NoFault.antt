@@ -1,16 +1,14 @@
 -- Bytes that spell a value have no first fault, and a disk with a volume's root has no fault of that volume.
-use Rattle.std.proofs.Common.{◌≡◌, ℕ, ◌+◌, ◌^◌, ◌<◌, ◌≤◌, Bool, true, false, List, [], ◌++◌, length, Result, Ok, Err, refl, sym, ap, subst, ◌∙◌, inl, inr, arith, true≢false, append_assoc}
+use Rattle.std.proofs.Common.{◌≡◌, ℕ, ◌+◌, ◌^◌, ◌<◌, ◌≤◌, List, [], ◌++◌, length, Result, Ok, refl, sym, ap, subst, ◌∙◌, inl, inr, arith, true≢false, append_assoc}
 use Rattle.std.proofs.lemmas.List.{append-nil}
 use Rattle.std.proofs.lemmas.Option.{same_Some, none-some}
-use Rattle.sm_disk.specs.Image.{Image, part}
+use Rattle.sm_disk.specs.Image.{Image}
 use Rattle.sm_slots.specs.Stored.{Stored, Blank, Record, BadLength, stored}
 use Rattle.sm_fields.specs.Format.{Format}
-use Rattle.sm_fields.specs.Grammar.{Spells, BeginsWith, Fault, FirstFault}
+use Rattle.sm_fields.specs.Grammar.{Spells, Fault, FirstFault}
 use Rattle.sm_fields.specs.Place.{Place}
-use Rattle.sm_fields.specs.Reading.{read}
 use Rattle.sm_fields.proofs.Exact.{read_again}
 use Rattle.sm_root.specs.declared.root.Root.{Root}
-use Rattle.sm_root.specs.Condition.{IsRoot}
 use Rattle.sm_root.specs.Layout.{root_record}
 use Rattle.sm_root.specs.Spelling.{spelling}
 use Rattle.sm_root.proofs.RootSpelled.{record_again}

@@ -1,17 +1,15 @@
 -- Disks spell one world or have one first fault, and never both.
-use Rattle.std.proofs.Common.{◌≡◌, ◌≢◌, inl, inr, ℕ, suc, ◌+◌, ◌<◌, ◌≤◌, List, [], ◌∷◌, ◌++◌, Option, Some, None, slice_get, refl, sym, ap, ◌∙◌, subst, arith}
+use Rattle.std.proofs.Common.{◌≡◌, inl, inr, ℕ, suc, ◌+◌, ◌<◌, ◌≤◌, List, [], ◌∷◌, ◌++◌, refl, sym, ap, ◌∙◌, subst, arith}
 use Rattle.std.proofs.lemmas.Bool.{cases_order}
 use Rattle.std.proofs.lemmas.Option.{same_Some, none-some}
 use Rattle.sm_base.specs.declared.limits.TheConstants.{SLOTS_END}
 use Rattle.sm_defs.specs.World.{Up}
-use Rattle.sm_defs.specs.Words.{Among}
-use Rattle.sm_disk.specs.Image.{Image}
 use Rattle.sm_slots.specs.Stored.{stored}
 use Rattle.sm_root.specs.declared.root.Root.{Root}
 use Rattle.sm_catroot.specs.declared.placed.Placed.{Placed}
 use Rattle.sm_catroot.specs.Catalog.{Catalog}
 use Rattle.sm_model.specs.Crossed.{Crossed}
-use Rattle.sm_model.specs.declared.world.OpenKind.TheVariants.{NoDisk, Short, Record, Number, Cross, Shape}
+use Rattle.sm_model.specs.declared.world.OpenKind.TheVariants.{Record, Cross}
 use Rattle.sm_shape.specs.Crossing.{IsFirstCrossing}
 use Rattle.sm_shape.specs.Blanked.{blanked}
 use Rattle.sm_opening.specs.OnDisk.{Disks, AreBytes, Damage, damage, record_start, image_at, world_of, IsCatalogOn, IsCatalogFault, IsCatalogDamage, LiesOn, LiesNowhere, IsVolumeOn, IsRootDamage, IsRecordDamage, IsDiskDamage, IsVolumeDamage, AreVolumesOn, IsFirstDamage, relation_start, IsShaped, IsReadWorld, Spells, IsWholeDamage, IsDamage}

@@ -1,12 +1,11 @@
 -- A node's records go on to be what its disks hold while what was written is put onto the media.
-use Rattle.std.proofs.Common.{◌≡◌, ℕ, ◌≤◌, List, length, map, Some, slice_get, refl, sym, ap, subst, ◌∙◌, inl, inr, IsTrue}
+use Rattle.std.proofs.Common.{◌≡◌, ℕ, ◌≤◌, List, length, map, sym, ap, subst, ◌∙◌, IsTrue}
 use Rattle.sm_base.specs.declared.limits.TheConstants.{MOST_VOLUMES}
 use Rattle.sm_base.specs.declared.numbers.VolNo.{VolNo}
 use Rattle.sm_disk.specs.Image.{Image}
 use Rattle.sm_disk.specs.Disk.{DiskState}
 use Rattle.sm_slots.specs.Stored.{slot_of, slots_end, stored}
 use Rattle.sm_register.specs.Opened.{FoundValue}
-use Rattle.sm_catroot.specs.declared.placed.Placed.{Placed}
 use Rattle.sm_catroot.specs.Catalog.{Catalog}
 use Rattle.sm_catroot.specs.Kept.{ShowsCatalog}
 use Rattle.volume_store.specs.Held.{need}
@@ -15,12 +14,14 @@ use Rattle.sm_model.specs.Answers.{volno}
 use Rattle.sm_opening.specs.declared.fault.OpenFault.{OpenFault}
 use Rattle.sm_opening.specs.declared.fault.OpenFault.TheVariants.{Unopened, NoMemory as OutOfMemory}
 use Rattle.sm_opening.specs.OnDisk.{Disks, Spells}
-use Rattle.sm_opening.specs.Looked.{disks_of, size_of, AllTold, EachMoves, IsLookedAt, IsKeptOn, IsAt, IsFaultCounted, Fails}
+use Rattle.sm_opening.specs.Looked.{disks_of, size_of, AllTold, EachMoves, IsKeptOn, Fails}
 use Rattle.sm_opening.specs.Finding.{IsCatalogIn, IsVolumeIn, ReadRecords, IsReadOn, LieApart}
 use Rattle.sm_opening.specs.Judged.{IsDiskFault, IsNoDiskFault}
 use Rattle.sm_opening.specs.Syncing.{AllSynced}
 use Rattle.sm_opening.specs.Whole.{world_on, IsSoundOn}
-use Rattle.sm_opening.specs.Opening.{IsReadyOn}
+use Rattle.sm_node.specs.Nodes.{Node}
+use Rattle.sm_opening.specs.Seating.{IsMadeOf}
+use Rattle.sm_opening.specs.Opening.{IsReadyOn, Opens}
 use Rattle.sm_opening.proofs.LookLemmas.{stays_at}
 use Rattle.sm_opening.proofs.DisksSame.{disks_same}
 
@@ -77,3 +78,14 @@ module _ {D : Type 0} (state : D → DiskState) (olds mids news : List D) (r : R
       sound = sound;
       spelled = spelled;
     }
+
+-- the node of what was prepared
+pub opens_with : {D : Type 0} (state : D → DiskState) (items news taken : List D) → taken ≡ news → EachMoves state IsKeptOn items news → (lengths : List ℕ) (r : ReadRecords) → IsReadyOn state items news lengths r → (n : Node D) → IsMadeOf state taken lengths r.catalog r.founds n → Opens state items n
+opens_with {D} state items news taken back moved lengths r ready n made = record {
+  disks = news;
+  lengths = lengths;
+  records = r;
+  moved = moved;
+  ready = ready;
+  made = subst (λ (l : List D). IsMadeOf state l lengths r.catalog r.founds n) back made;
+}

@@ -1,23 +1,21 @@
 -- How far the volumes were looked at, and what one more of them adds.
-use Rattle.std.proofs.Common.{◌≡◌, ℕ, zero, suc, ◌+◌, ◌<◌, ◌≤◌, List, [], ◌∷◌, ◌++◌, length, get_or, take, drop, map, true, Option, Some, None, Result, Ok, Err, slice_get, refl, sym, ap, subst, ◌∙◌, inl, inr, ◌⊎◌, arith, IsTrue, length-append}
+use Rattle.std.proofs.Common.{◌≡◌, ℕ, zero, suc, ◌+◌, ◌<◌, ◌≤◌, List, [], ◌∷◌, ◌++◌, length, get_or, take, drop, map, true, Some, Ok, Err, slice_get, refl, sym, ap, subst, ◌∙◌, inl, inr, ◌⊎◌, arith, IsTrue, length-append}
 use Rattle.std.proofs.lemmas.List.{map_push, take_more, drop_more, take_all, take-append-drop, length-take, length-drop, nil_from_length}
 use Rattle.std.proofs.lemmas.Bool.{cases_order}
 use Rattle.std.proofs.lemmas.Option.{same_Some, slice_get_within, slice_get-get_or, get_or_from_slice_get}
-use Rattle.sm_base.specs.declared.numbers.DiskNo.{DiskNo}
 use Rattle.sm_base.specs.declared.numbers.VolNo.{VolNo}
 use Rattle.sm_disk.specs.Image.{Image}
-use Rattle.sm_disk.specs.Disk.{DiskState, IsCounted}
+use Rattle.sm_disk.specs.Disk.{DiskState}
 use Rattle.sm_disk.proofs.Calls.{counted_within}
 use Rattle.sm_slots.specs.Stored.{slot_of}
 use Rattle.sm_root.specs.declared.root.Root.{Root}
 use Rattle.sm_catroot.specs.declared.placed.Placed.{Placed}
 use Rattle.volume_store.specs.Held.{need}
-use Rattle.volume_store.specs.Opened.{FoundMaps, IsFoundOn, IsRootOn}
+use Rattle.volume_store.specs.Opened.{FoundMaps, IsRootOn}
 use Rattle.sm_model.specs.Answers.{volno}
-use Rattle.sm_model.specs.declared.world.OpenKind.TheVariants.{Fault}
 use Rattle.sm_opening.specs.declared.fault.OpenFault.{OpenFault}
 use Rattle.sm_opening.specs.declared.fault.OpenFault.TheVariants.{Unopened, NoMemory as OutOfMemory}
-use Rattle.sm_opening.specs.Looked.{disks_of, AllTold, EachMoves, IsLookedAt, IsAt, Looks, IsDamageOf, AnswersDamage, IsFaultCounted, Fails, unopened}
+use Rattle.sm_opening.specs.Looked.{disks_of, AllTold, EachMoves, IsLookedAt, Looks, IsDamageOf, IsFaultCounted, Fails}
 use Rattle.sm_opening.specs.Finding.{IsVolumeIn, IsVolumeFound, AreVolumesFound, LieApart, lies_apart, root_of}
 use Rattle.sm_opening.specs.OnDisk.{Disks, Damage, IsVolumeOn, IsVolumeDamage, AreVolumesOn, IsFirstDamage}
 use Rattle.sm_opening.proofs.LookLemmas.{unmoved, looked_then, stays_at, told_then}

@@ -1,18 +1,17 @@
 -- The records of all disks, one after the other.
-use Rattle.std.proofs.Common.{◌≡◌, ℕ, ◌≤◌, List, [], length, map, Option, Some, Result, Ok, Err, slice_get, refl, sym, ap, subst, ◌∙◌, inl, inr, IsTrue}
+use Rattle.std.proofs.Common.{◌≡◌, ℕ, ◌≤◌, List, [], length, map, Ok, Err, sym, subst, inl, inr, IsTrue}
 use Rattle.sm_disk.specs.Image.{Image}
 use Rattle.sm_disk.specs.Disk.{DiskState}
 use Rattle.sm_slots.specs.Stored.{slot_of, slots_end, stored}
 use Rattle.sm_root.specs.declared.root.Root.{Root}
 use Rattle.sm_register.specs.Opened.{FoundValue}
-use Rattle.sm_catroot.specs.declared.placed.Placed.{Placed}
 use Rattle.sm_catroot.specs.Catalog.{Catalog}
 use Rattle.sm_catroot.specs.Kept.{ShowsCatalog}
 use Rattle.volume_store.specs.Opened.{FoundMaps}
 use Rattle.sm_opening.specs.declared.fault.OpenFault.{OpenFault}
-use Rattle.sm_opening.specs.Looked.{disks_of, AllTold, EachMoves, IsLookedAt, Looks, IsDamageOf, AnswersDamage, IsFaultCounted, Fails}
-use Rattle.sm_opening.specs.Finding.{IsCatalogIn, IsCatalogFound, AreVolumesFound, LieApart, ReadRecords, IsReadOn, root_of}
-use Rattle.sm_opening.specs.OnDisk.{Disks, Damage, IsCatalogOn, IsCatalogDamage, AreVolumesOn, IsFirstDamage, IsReadWorld, IsReadingDamage}
+use Rattle.sm_opening.specs.Looked.{disks_of, AllTold, IsLookedAt, Looks, Fails}
+use Rattle.sm_opening.specs.Finding.{IsCatalogIn, IsCatalogFound, AreVolumesFound, LieApart, IsReadOn, root_of}
+use Rattle.sm_opening.specs.OnDisk.{Disks, IsCatalogOn, IsCatalogDamage, AreVolumesOn, IsFirstDamage, IsReadWorld, IsReadingDamage}
 use Rattle.sm_opening.proofs.LookLemmas.{looked_then, stays_at}
 use Rattle.sm_opening.proofs.Once.{the_catalog}
 use Rattle.sm_opening.proofs.Progress.{counted_since, same_disks, still_told}

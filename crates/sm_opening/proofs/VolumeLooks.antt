@@ -1,12 +1,11 @@
 -- What is answered of a volume's disk.
-use Rattle.std.proofs.Common.{◌≡◌, ◌≢◌, ℕ, ◌+◌, ◌==◌, ◌<◌, ◌≤◌, List, [], ◌∷◌, length, get_or, Bool, true, false, true≢false, Option, Some, None, Result, Ok, Err, slice_get, refl, sym, ap, subst, ◌∙◌, inl, inr, arith, IsTrue}
+use Rattle.std.proofs.Common.{◌≡◌, ℕ, ◌+◌, ◌==◌, ◌<◌, ◌≤◌, List, length, Bool, true, false, true≢false, Some, None, Result, Ok, Err, slice_get, refl, sym, ap, subst, ◌∙◌, inl, inr, arith, IsTrue}
 use Rattle.std.specs.Prelude.{◌&&◌, not, nat_lt, map}
 use Rattle.std.specs.List.{list_any}
 use Rattle.std.proofs.lemmas.Bool.{and_parts, cases_Bool, eqb-true, not-true, not-false}
 use Rattle.std.proofs.lemmas.Bool.Decides.{nat_tests}
-use Rattle.std.proofs.lemmas.Option.{same_Some, none-some, slice_get_within, slice_get-get_or, slice_get_past}
+use Rattle.std.proofs.lemmas.Option.{same_Some, none-some, slice_get_past}
 use Rattle.std.proofs.lemmas.List.{length-map}
-use Rattle.sm_base.specs.declared.numbers.DiskNo.{DiskNo}
 use Rattle.sm_base.specs.declared.numbers.VolNo.{VolNo}
 use Rattle.sm_defs.specs.Words.{Among}
 use Rattle.sm_defs.proofs.Members.{any_among, among_any}
@@ -20,9 +19,9 @@ use Rattle.volume_store.specs.Opened as store
 use Rattle.volume_store.specs.Opened.{FoundMaps, IsRootOn, IsNoRootOn, least_need}
 use Rattle.volume_store.specs.declared.faults.VolumeFault.{VolumeFault}
 use Rattle.volume_store.specs.declared.faults.VolumeFault.TheVariants as faults
-use Rattle.sm_model.specs.declared.world.OpenKind.TheVariants.{NoDisk, Short, Record, Number, Fault}
+use Rattle.sm_model.specs.declared.world.OpenKind.TheVariants.{NoDisk, Short, Record, Number}
 use Rattle.sm_opening.specs.declared.fault.OpenFault.{OpenFault}
-use Rattle.sm_opening.specs.declared.fault.OpenFault.TheVariants.{Unopened, NoMemory as OutOfMemory}
+use Rattle.sm_opening.specs.declared.fault.OpenFault.TheVariants.{Unopened}
 use Rattle.sm_opening.specs.Looked.{disks_of, seen_of, size_of, AllTold, OneMoves, IsLookedAt, Looks, IsDamageOf, AnswersDamage, IsFaultCounted, Fails, unopened}
 use Rattle.sm_opening.specs.Finding.{FindsVolume, IsVolumeFound, volume_fault, lies_apart}
 use Rattle.sm_opening.specs.OnDisk.{Disks, Damage, damage, record_start, image_at, LiesOn, LiesNowhere, IsVolumeOn, IsVolumeDamage}

@@ -1,10 +1,10 @@
 -- The records of all disks, and what they say together.
-use Rattle.std.proofs.Common.{◌≡◌, ℕ, List, map, Result, Ok, Err, refl, sym, ap, subst, ◌∙◌, inl, inr}
+use Rattle.std.proofs.Common.{◌≡◌, ℕ, List, map, Ok, Err, refl, sym, ap, subst, ◌∙◌, inl, inr}
 use Rattle.sm_disk.specs.Disk.{DiskState}
 use Rattle.sm_root.specs.declared.root.Root.{Root}
 use Rattle.sm_catroot.specs.Catalog.{Catalog}
 use Rattle.sm_opening.specs.declared.fault.OpenFault.{OpenFault}
-use Rattle.sm_opening.specs.Looked.{disks_of, size_of, AllTold, EachMoves, IsLookedAt, Looks, IsDamageOf, AnswersDamage, IsFaultCounted, Fails}
+use Rattle.sm_opening.specs.Looked.{disks_of, size_of, AllTold, Looks, IsDamageOf, AnswersDamage, IsFaultCounted, Fails}
 use Rattle.sm_opening.specs.Finding.{ReadRecords, root_of}
 use Rattle.sm_opening.specs.OnDisk.{Disks, Damage, world_of, IsReadWorld, IsReadingDamage, IsWholeDamage, IsDamage, Spells}
 use Rattle.sm_opening.specs.declared.fault.OpenFault.TheVariants.{Unopened, NoMemory as OutOfMemory}

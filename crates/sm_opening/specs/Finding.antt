@@ -1,10 +1,10 @@
 -- What is found on a single disk, for a catalogue and for a volume, and as which fault of a node a fault of it counts.
-use Rattle.std.specs.Prelude.{◌≡◌, ◌≤◌, ◌==◌, ◌&&◌, not, nat_lt, true, take, length, Some, slice_get, Bool, Result, Ok, Err, List, IfOk, IfErr, IsTrue, ℕ}
+use Rattle.std.specs.Prelude.{◌≡◌, ◌≤◌, ◌==◌, ◌&&◌, not, nat_lt, true, take, length, Some, slice_get, Bool, Result, Err, List, IfOk, IfErr, IsTrue, ℕ}
 use Rattle.std.specs.List.{list_any}
 use Rattle.sm_base.specs.declared.limits.TheConstants.{SLOTS_END}
 use Rattle.sm_base.specs.declared.numbers.DiskNo.{DiskNo}
 use Rattle.sm_base.specs.declared.numbers.VolNo.{VolNo}
-use Rattle.sm_disk.specs.Disk.{DiskState, GoesOn, IsQuiet, IsCounted}
+use Rattle.sm_disk.specs.Disk.{DiskState, IsCounted}
 use Rattle.sm_model.specs.declared.world.OpenKind.TheVariants.{Record, Short, Number, Fault}
 use Rattle.sm_register.specs.Opened as register
 use Rattle.sm_register.specs.Opened.{FoundValue}

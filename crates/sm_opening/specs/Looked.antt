@@ -2,11 +2,10 @@
 use Rattle.std.specs.Prelude.{◌≡◌, ◌⊎◌, ℕ, List, map, length, Option, Some, None, Result, Ok, Err, IfErr, IsTrue, slice_get, slice_set}
 use Rattle.sm_disk.specs.Image.{Image}
 use Rattle.sm_disk.specs.Disk.{DiskState, GoesOn, IsQuiet, IsCounted}
-use Rattle.sm_base.specs.declared.numbers.DiskNo.{DiskNo}
 use Rattle.sm_model.specs.declared.world.OpenKind.TheVariants.{Fault}
 use Rattle.sm_opening.specs.declared.fault.OpenFault.{OpenFault}
 use Rattle.sm_opening.specs.declared.fault.OpenFault.TheVariants.{Unopened, NoMemory as OutOfMemory}
-use Rattle.sm_opening.specs.OnDisk.{Disks, Damage, damage}
+use Rattle.sm_opening.specs.OnDisk.{Disks, Damage}
 
 -- ---- the disks
 

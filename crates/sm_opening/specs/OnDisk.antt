@@ -1,6 +1,6 @@
 -- Which world the images of a node's disks spell, one image for each disk, or the first fault in them. Disk 0 is tested
 -- first, then the volumes by number, then the relationships by number, then the shape of the whole.
-use Rattle.std.specs.Prelude.{◌≡◌, ◌≢◌, ◌⊎◌, ℕ, suc, ◌+◌, ◌<◌, ◌≤◌, false, List, [], ◌∷◌, ◌++◌, length, take, map, Option, Some, None, slice_get}
+use Rattle.std.specs.Prelude.{◌≡◌, ◌≢◌, ◌⊎◌, ℕ, suc, ◌+◌, ◌<◌, ◌≤◌, false, List, [], ◌∷◌, ◌++◌, length, take, map, Some, None, slice_get}
 use Rattle.std.specs.List.{flat_map}
 use Rattle.sm_base.specs.declared.limits.TheConstants.{SLOTS_END}
 use Rattle.sm_defs.specs.Volume.{Volume}

@@ -1,5 +1,5 @@
 -- What opening a node answers.
-use Rattle.std.specs.Prelude.{◌≡◌, ◌≤◌, ℕ, [], List, map, length, Result, Ok, Err}
+use Rattle.std.specs.Prelude.{◌≡◌, ◌≤◌, ℕ, List, map, length, Result, Ok, Err}
 use Rattle.sm_base.specs.declared.limits.TheConstants.{MOST_VOLUMES}
 use Rattle.sm_disk.specs.Disk.{DiskState}
 use Rattle.sm_node.specs.Nodes.{Node}

@@ -2,7 +2,6 @@ use Rattle.std.proofs.Common.{[], List, length, map, Ok, Err, ap, subst, ◌∙�
 use Rattle.sm_root.specs.declared.root.Root.{Root}
 use Rattle.sm_catroot.specs.declared.placed.Placed.{Placed}
 use Rattle.sm_catroot.specs.Catalog.{Catalog}
-use Rattle.volume_store.specs.Opened.{FoundMaps}
 use Rattle.sm_opening.specs.OnDisk.{AreVolumesOn, IsFirstDamage}
 use Rattle.sm_opening.specs.Looked.{disks_of, AllTold, Looks, Fails}
 use Rattle.sm_opening.specs.Finding.{AreVolumesFound, LieApart, root_of}

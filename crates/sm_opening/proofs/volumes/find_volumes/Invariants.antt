@@ -1,4 +1,3 @@
-use Rattle.std.proofs.Common.{◌≡◌, ◌≤◌}
 use Rattle.sm_opening.proofs.Progress.{Progress}
 use Rattle.sm_opening.proofs.volumes.find_volumes.Given as goal
 
