@@ -1,17 +1,15 @@
 -- Disks spell one world or have one first fault, and never both.
-use Rattle.std.proofs.Common.{◌≡◌, ◌≢◌, inl, inr, ℕ, suc, ◌+◌, ◌<◌, ◌≤◌, List, [], ◌∷◌, ◌++◌, Option, Some, None, slice_get, refl, sym, ap, ◌∙◌, subst, arith}
+use Rattle.std.proofs.Common.{◌≡◌, inl, inr, ℕ, suc, ◌+◌, ◌<◌, ◌≤◌, List, [], ◌∷◌, ◌++◌, refl, sym, ap, ◌∙◌, subst, arith}
 use Rattle.std.proofs.lemmas.Bool.{cases_order}
 use Rattle.std.proofs.lemmas.Option.{same_Some, none-some}
 use Rattle.sm_base.specs.declared.limits.TheConstants.{SLOTS_END}
 use Rattle.sm_defs.specs.World.{Up}
-use Rattle.sm_defs.specs.Words.{Among}
-use Rattle.sm_disk.specs.Image.{Image}
 use Rattle.sm_slots.specs.Stored.{stored}
 use Rattle.sm_root.specs.declared.root.Root.{Root}
 use Rattle.sm_catroot.specs.declared.placed.Placed.{Placed}
 use Rattle.sm_catroot.specs.Catalog.{Catalog}
 use Rattle.sm_model.specs.Crossed.{Crossed}
-use Rattle.sm_model.specs.declared.world.OpenKind.TheVariants.{NoDisk, Short, Record, Number, Cross, Shape}
+use Rattle.sm_model.specs.declared.world.OpenKind.TheVariants.{Record, Cross}
 use Rattle.sm_shape.specs.Crossing.{IsFirstCrossing}
 use Rattle.sm_shape.specs.Blanked.{blanked}
 use Rattle.sm_opening.specs.OnDisk.{Disks, AreBytes, Damage, damage, record_start, image_at, world_of, IsCatalogOn, IsCatalogFault, IsCatalogDamage, LiesOn, LiesNowhere, IsVolumeOn, IsRootDamage, IsRecordDamage, IsDiskDamage, IsVolumeDamage, AreVolumesOn, IsFirstDamage, relation_start, IsShaped, IsReadWorld, Spells, IsWholeDamage, IsDamage}
@@ -23,7 +21,7 @@ over a b less more = omega (arith, less, more)
 module _ (d : Disks) where
   -- ---- disk 0
 
-  the_catalog : (j k : Catalog) → IsCatalogOn d j → IsCatalogOn d k → j ≡ k
+  pub the_catalog : (j k : Catalog) → IsCatalogOn d j → IsCatalogOn d k → j ≡ k
   the_catalog j k a b = one_catalog (stored (d.images 0)) j k a.read b.read a.shown b.shown
 
   -- ---- a volume's disk
@@ -41,7 +39,7 @@ module _ (d : Disks) where
 
   -- ---- the volumes
 
-  the_roots : (before : List Placed) (i : ℕ) (ps : List Placed) (rs ss : List Root) → AreVolumesOn d before i ps rs → AreVolumesOn d before i ps ss → rs ≡ ss
+  pub the_roots : (before : List Placed) (i : ℕ) (ps : List Placed) (rs ss : List Root) → AreVolumesOn d before i ps rs → AreVolumesOn d before i ps ss → rs ≡ ss
   the_roots before i [] [] [] a b = refl
   the_roots before i [] [] (s ∷ ss) a b = absurd b
   the_roots before i [] (r ∷ rs) ss a b = absurd a
@@ -50,7 +48,7 @@ module _ (d : Disks) where
   the_roots before i (p ∷ ps) (r ∷ rs) (s ∷ ss) a b =
       ap (λ (x : Root). x ∷ rs) (the_root before i p r s a.0 b.0) ∙ ap (λ (xs : List Root). s ∷ xs) (the_roots (before ++ p ∷ []) (suc i) ps rs ss a.1 b.1)
 
-  the_parts : (j k : Catalog) (rs ss : List Root) → IsReadWorld d j rs → IsReadWorld d k ss → (j ≡ k) × (rs ≡ ss)
+  pub the_parts : (j k : Catalog) (rs ss : List Root) → IsReadWorld d j rs → IsReadWorld d k ss → (j ≡ k) × (rs ≡ ss)
   the_parts j k rs ss a b =
       let same = the_catalog j k a.catalog b.catalog in
       (same, the_roots [] 0 k.volumes rs ss (subst (λ (x : Catalog). AreVolumesOn d [] 0 x.volumes rs) same a.volumes) b.volumes)

@@ -1,5 +1,5 @@
 -- A slot spells one catalogue or root, or breaks at one byte, and never both.
-use Rattle.std.proofs.Common.{◌≡◌, inl, inr, ⊎_elim, ℕ, zero, suc, ◌+◌, ◌<◌, ◌≤◌, List, length, get_or, Bool, true, false, cond, leb, refl, sym, ap, ◌∙◌, subst, arith, Result, Ok, Err}
+use Rattle.std.proofs.Common.{◌≡◌, inl, inr, ℕ, zero, suc, ◌+◌, ◌<◌, List, length, get_or, Bool, true, false, cond, leb, refl, sym, ◌∙◌, subst, arith, Result, Ok, Err}
 use Rattle.std.proofs.lemmas.Bool.{cases_order}
 use Rattle.std.specs.Int.{from_be_bytes, w32}
 use Rattle.sm_disk.specs.Image.{Image, part}
@@ -18,7 +18,6 @@ use Rattle.sm_catroot.specs.declared.TheConstants.{MAGIC}
 use Rattle.sm_catroot.specs.Catalog.{Catalog}
 use Rattle.sm_catroot.specs.Condition.{again}
 use Rattle.sm_catroot.specs.Layout.{catalog_record}
-use Rattle.sm_catroot.specs.Spelling.{spelling}
 use Rattle.sm_catroot.specs.Kept.{ShowsCatalog, BreaksCatalog}
 use Rattle.sm_catroot.proofs.Decoded.{one_value, written_is_read}
 use Rattle.volume_store.proofs.RootRead.{record_same}

@@ -1,6 +1,6 @@
 -- Which world the images of a node's disks spell, one image for each disk, or the first fault in them. Disk 0 is tested
 -- first, then the volumes by number, then the relationships by number, then the shape of the whole.
-use Rattle.std.specs.Prelude.{◌≡◌, ◌≢◌, ◌⊎◌, ℕ, suc, ◌+◌, ◌<◌, ◌≤◌, false, List, [], ◌∷◌, ◌++◌, length, take, map, Option, Some, None, slice_get}
+use Rattle.std.specs.Prelude.{◌≡◌, ◌≢◌, ◌⊎◌, ℕ, suc, ◌+◌, ◌<◌, ◌≤◌, false, List, [], ◌∷◌, ◌++◌, length, take, map, Some, None, slice_get}
 use Rattle.std.specs.List.{flat_map}
 use Rattle.sm_base.specs.declared.limits.TheConstants.{SLOTS_END}
 use Rattle.sm_defs.specs.Volume.{Volume}
@@ -196,6 +196,12 @@ abbrev pub IsWholeDamage : Disks → Catalog → Up → Damage → Type 0
 IsWholeDamage d k w f =
     ((place : ℕ) × IsFirstCrossing (blanked w) place × (f ≡ damage 0 (record_start (d.images 0) + relation_start k place) Cross))
     ⊎ (Crossed (blanked w) × ¬ (IsShaped (blanked w)) × (f ≡ damage 0 0 Shape))
+
+-- the first fault of the records, each by itself
+abbrev pub IsReadingDamage : Disks → Damage → Type 0
+IsReadingDamage d f =
+    IsCatalogDamage d f
+    ⊎ ((k : Catalog) × IsCatalogOn d k × IsFirstDamage d [] 0 k.volumes f)
 
 -- the first fault of the images
 abbrev pub IsDamage : Disks → Damage → Type 0
