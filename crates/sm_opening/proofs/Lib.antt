@@ -15,3 +15,4 @@ pub mod SyncLemmas
 pub mod WholeLooks
 pub mod SeatLemmas
 pub mod OpenLemmas
+pub mod NodeWorld
