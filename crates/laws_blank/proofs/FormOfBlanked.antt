@@ -12,21 +12,9 @@ use Rattle.sm_model.specs.TagsFit.{TagsFitIn, TagsFit}
 use Rattle.sm_shape.specs.Blank.{zeros, blank_block}
 use Rattle.sm_shape.specs.Blanked.{zeroed, zeroed_snapshot, zeroed_volume, blanked}
 use Rattle.sm_shape.proofs.PlacesLemmas.{hole_is}
+use Rattle.sm_shape.proofs.FormLemmas.{long_zeros, zero_byte}
 use Rattle.laws_blank.proofs.Zeroed.{zeroed_images}
 use Rattle.laws_blank.proofs.Origins.{zeroed_block, one_zeroed, stored_for, volume_for, snapshot_for}
-
-long_zeros : length zeros ≡ 4096
-unfolding zeros
-long_zeros = length-replicate {A = ℕ} 4096 0
-
-among_same : (n x y : ℕ) → Among (replicate n x) y → y ≡ x
-among_same zero x y a = absurd a
-among_same (suc n) x y (inl same) = same
-among_same (suc n) x y (inr later) = among_same n x y later
-
-zero_byte : (y : ℕ) → Among zeros y → y ≡ 0
-unfolding zeros
-zero_byte y a = among_same 4096 0 y a
 
 snapshot_formed : (s : Snapshot) → FormedSnapshot s → FormedSnapshot (zeroed_snapshot s)
 snapshot_formed s f = record { name = f.name; label = f.label; time = f.time }

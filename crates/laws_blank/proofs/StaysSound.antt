@@ -14,23 +14,13 @@ use Rattle.sm_model.specs.LegalRun.{IsDone, IsDeed}
 use Rattle.sm_model.specs.Opened.{opened}
 use Rattle.sm_model.specs.Sound.{SoundUp}
 use Rattle.sm_shape.specs.Blanked.{zeroed_volume, blanked}
+use Rattle.laws_cases.proofs.Answers.Deeds.{done_deed}
 use Rattle.laws_sound.proofs.Soundly.{deeds_keep_sound, restarts_keep_sound}
 use Rattle.laws_blank.specs.Blanking.{ShowsNoBytes, blanked_event, blanked_answer}
 use Rattle.laws_blank.proofs.Commuting.{commutes}
 use Rattle.laws_blank.proofs.Replies.{is_reply, silent_or_same}
 
 -- ---- an answer
-
--- the world alone answers no worker's step
-no_step : (w : Up) (shown : Bool) (d : Deed) → ¬ IsDone (answer w (events.Work shown)) d
-unfolding answer
-no_step w shown d h = h
-
--- what is answered is a deed
-deed_of : (e : Event) (d : Deed) → IsDone (answer d.old e) d → IsDeed e d
-unfolding IsDeed
-deed_of (events.Work shown) d h = absurd (no_step d.old shown d h)
-deed_of e d h = h
 
 -- a script may write zeros too
 given_blanked : (e : Event) → IsGiven e → IsGiven (blanked_event e)
@@ -44,7 +34,7 @@ silent_stays w e r silent given sound says =
     let d : Deed = record { actor = 0; event = blanked_event e; old = blanked w; reply = t.0; new = blanked r.world } in
     let tells : Tells r.reply t.0 = subst (λ (x : Told). Tells x t.0) (sym t.1) refl in
     let done : IsDone (answer (blanked w) (blanked_event e)) d = subst (λ (o : Option Answer). IsDone o d) (sym (commutes w e silent ∙ ap (option_map blanked_answer) says)) (tells, refl) in
-    deeds_keep_sound (blanked_event e) d sound (given_blanked e given) (deed_of (blanked_event e) d done)
+    deeds_keep_sound (blanked_event e) d sound (given_blanked e given) (done_deed (blanked_event e) d done)
 
 pub blanked_stays_sound : (w : Up) (e : Event) (r : Reached) → IsGiven e → SoundUp (blanked w) → answer w e ≡ Some (Ok r) → SoundUp (blanked r.world)
 blanked_stays_sound w e r given sound says = elim (silent_or_same w e r says) [

@@ -13,17 +13,14 @@ use Rattle.sm_catroot.specs.declared.placed.Placed.{Placed}
 use Rattle.sm_catroot.specs.Catalog.{Catalog}
 use Rattle.sm_model.specs.Opened.{restarted, rejoined, opened}
 use Rattle.sm_opening.specs.OnDisk.{Disks, read_relation, read_volume, read_volumes, world_of, IsVolumeOn, AreVolumesOn, IsReadWorld, Spells}
+use Rattle.laws_cases.proofs.Answers.Opening.{restarted_twice}
 use Rattle.laws_disks.specs.Room.{HasRoomFor, HasRoom}
-
-still_stopped : (o : Option Transfer) → restarted (restarted o) ≡ restarted o
-still_stopped None = refl
-still_stopped (Some t) = refl
 
 still_read : (rs : List Relation) → map rejoined (map read_relation rs) ≡ map read_relation rs
 still_read [] = refl
 still_read (r ∷ rs) =
     let one : Relationship = relationship_of [] false r in
-    let here : rejoined (read_relation r) ≡ read_relation r = ap (λ (o : Option Transfer). let x : Relationship = record one { transfer = o } in x) (still_stopped one.transfer) in
+    let here : rejoined (read_relation r) ≡ read_relation r = ap (λ (o : Option Transfer). let x : Relationship = record one { transfer = o } in x) (restarted_twice one.transfer) in
     let rest = still_read rs in
     cc
 

@@ -35,7 +35,7 @@ use Rattle.laws_copies.proofs.StepTags.{published_among}
 use Rattle.laws_families.proofs.BlocksStay.{answered_agree, thinned_in_family, one_in_family, families_come, families_fresh}
 use Rattle.sm_defs.specs.Made.{family_of_transfer}
 use Rattle.sm_defs.proofs.Thinned.{filter_thins, thinned_among}
-use Rattle.sm_defs.proofs.Members.{among_get_or, among_set}
+use Rattle.sm_defs.proofs.Members.{among_get_or, among_set, among_place}
 
 -- ---- a volume that was changed
 
@@ -49,11 +49,6 @@ agree_set w i u k one h x y s t (a, m) (b, n) f e = go (among_set w.volumes i u 
     go (inl p) (inr c) = h y s t c (subst (λ z. Among z.snapshots s) p m) n (sym f ∙ ap (λ z. z.family) p) e
     go (inr c) (inl q) = sym (h x t s c (subst (λ z. Among z.snapshots t) q n) m (f ∙ ap (λ z. z.family) q) (sym e))
     go (inr c) (inr d) = k x y s t (c, m) (d, n) f e
-
-among_place : {X : Type 0} (xs : List X) (x : X) → Among xs x → (n : ℕ) × (slice_get xs n ≡ Some x)
-among_place [] x m = absurd m
-among_place (y ∷ ys) x (inl e) = (0, ap Some (sym e))
-among_place (y ∷ ys) x (inr m) = let (n, e) = among_place ys x m in (suc n, e)
 
 not_all : (a b c : Bool) → (not a && b && c) ≡ false → a ≡ false → b ≡ true → c ≡ false
 not_all true b c e f g = absurd (true≢false f)

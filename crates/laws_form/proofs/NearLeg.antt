@@ -9,7 +9,8 @@ use Rattle.sm_model.specs.LegsFit.{FirstFits, FirstLegFits}
 use Rattle.sm_model.specs.Running.{running_in}
 use Rattle.sm_model.specs.Steps.{cost}
 use Rattle.sm_model.specs.Sound.{SoundUp}
-use Rattle.laws_cases.proofs.Steps.Parties.{snapshot_is, found_one}
+use Rattle.laws_cases.proofs.Steps.Parties.{snapshot_is}
+use Rattle.sm_model.proofs.Found.{found_one}
 use Rattle.laws_cases.proofs.Steps.Costs.{cost_at_most, prefix_at_most}
 use Rattle.sm_defs.specs.Progress.{landed_prefix}
 use Rattle.sm_defs.proofs.Members.{among_get_or, among_map}

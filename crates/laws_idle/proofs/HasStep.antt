@@ -13,7 +13,8 @@ use Rattle.sm_model.specs.Running.{Running, IsRunning}
 use Rattle.sm_model.specs.Steps.{snapshot_of}
 use Rattle.sm_model.specs.Due.{StepKind, revert, finish, settle, prepare, kind_due, kind_for, kind_for_leg, kind_at_source, kind_finishing, kind_reverting, reserved_leg, lacks_reserved, is_reverting}
 use Rattle.laws_idle.specs.Idling.{EndsAtBase}
-use Rattle.laws_cases.proofs.Steps.Parties.{relation_stands, found_one}
+use Rattle.laws_cases.proofs.Steps.Parties.{relation_stands}
+use Rattle.sm_model.proofs.Found.{found_one}
 use Rattle.laws_cases.proofs.Steps.LegsThere.{leg_there}
 
 is_resync_is : (kind : TransferKind) → is_resync kind ≡ true → kind ≡ Resync

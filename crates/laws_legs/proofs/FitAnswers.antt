@@ -17,7 +17,8 @@ use Rattle.laws_cases.specs.Needs.{KeepsNeeded}
 use Rattle.laws_cases.proofs.Needed.Needs.{set_cases, push_within}
 use Rattle.laws_cases.proofs.Needed.NeededHere.{base_at_source, leg_at_source}
 use Rattle.laws_cases.proofs.Needed.Leaving.{same_member}
-use Rattle.laws_cases.proofs.Steps.Parties.{snapshot_is, found_one}
+use Rattle.sm_model.proofs.Found.{found_one}
+use Rattle.laws_cases.proofs.Steps.Parties.{snapshot_is}
 use Rattle.laws_cases.proofs.Answers.Plainly.{relation_at_place}
 use Rattle.laws_cases.proofs.Steps.Costs.{prefix_at_most}
 use Rattle.laws_cases.proofs.Moves.Moves.{Aside, Turn, Start, Halve, IsMove, nothing, clock, new_policy, rule, creates, writes, drops, points, breaks, snaps, quiesces, resumes, ends, ends_settled, halts, halts_settled, starts, resyncs, deletes, releases, aside, relates, turns, begins, halves}

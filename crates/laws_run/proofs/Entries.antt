@@ -10,19 +10,9 @@ use Rattle.sm_model.specs.LegalRun.{IsDone, IsRefused, IsDeed, IsQuiet}
 use Rattle.sm_model.specs.declared.reply.Reply.{Reply}
 
 -- the world alone answers no worker's step
-no_step_done : (w : Up) (shown : Bool) (d : Deed) → ¬ IsDone (answer w (events.Work shown)) d
-unfolding answer
-no_step_done w shown d h = h
-
 no_step_refused : (w : Up) (shown : Bool) (reply : Reply) → ¬ IsRefused (answer w (events.Work shown)) reply
 unfolding answer
 no_step_refused w shown reply h = h
-
--- what is answered is a deed
-pub done_deed : (e : Event) (d : Deed) → IsDone (answer d.old e) d → IsDeed e d
-unfolding IsDeed
-done_deed (events.Work shown) d h = absurd (no_step_done d.old shown d h)
-done_deed e d h = h
 
 -- where it is refused it is quiet
 pub refused_quiet : (w : Up) (e : Event) (reply : Reply) → IsRefused (answer w e) reply → IsQuiet w e reply

@@ -31,6 +31,11 @@ among_map f (z ∷ xs) x (inl e) = inl (ap f e)
 among_map f (z ∷ xs) x (inr m) = inr (among_map f xs x m)
 among_map f [] x m = absurd m
 
+pub among_place : {X : Type 0} (xs : List X) (x : X) → Among xs x → (n : ℕ) × (slice_get xs n ≡ Some x)
+among_place [] x m = absurd m
+among_place (y ∷ ys) x (inl e) = (0, ap Some (sym e))
+among_place (y ∷ ys) x (inr m) = let (n, e) = among_place ys x m in (suc n, e)
+
 pub from_map : {X Y : Type 0} (f : X → Y) (xs : List X) (y : Y) → Among (map f xs) y → (x : X) × Among xs x × (y ≡ f x)
 from_map f [] y m = absurd m
 from_map f (z ∷ xs) y (inl e) = (z, inl refl, e)

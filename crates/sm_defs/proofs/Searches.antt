@@ -1,5 +1,5 @@
 -- What a search for the first that passes finds.
-use Rattle.std.proofs.Common.{◌≡◌, ◌⊎◌, ◌<◌, ◌≤◌, ℕ, suc, ◌+◌, ◌||◌, nat_lt, not, Bool, true, false, cond, List, [], ◌∷◌, length, position, get_or, Option, Some, None, refl, ap, sym, subst, ◌∙◌, inl, inr, arith}
+use Rattle.std.proofs.Common.{◌≡◌, ◌⊎◌, ◌<◌, ◌≤◌, ℕ, suc, ◌+◌, ◌||◌, nat_lt, not, Bool, true, false, cond, List, [], ◌∷◌, length, position, get_or, Option, Some, None, refl, ap, sym, subst, ◌∙◌, inl, inr, true≢false, arith}
 use Rattle.std.proofs.lemmas.Bool.Decides.{nat_tests}
 use Rattle.std.proofs.lemmas.Option.{same_Some, slice_get_within, get_or_from_slice_get}
 use Rattle.std.specs.Prelude.{slice_get, slice_index_or}
@@ -63,6 +63,13 @@ find_none_go false r o c e h = h e
 pub find_none : {X : Type 0} (p : X → Bool) (xs : List X) → find p xs ≡ None → list_any p xs ≡ false
 find_none p [] e = refl
 find_none p (x ∷ xs) e = find_none_go (p x) x (find p xs) (list_any p xs) e (find_none p xs)
+
+pub find_any : {X : Type 0} (p : X → Bool) (xs : List X) → list_any p xs ≡ true → (x : X) × (find p xs ≡ Some x)
+find_any {X} p xs e = go (find p xs) refl
+  where
+    go : (o : Option X) → find p xs ≡ o → (x : X) × (find p xs ≡ Some x)
+    go None is = absurd (true≢false (sym e ∙ find_none p xs is))
+    go (Some x) is = (x, is)
 
 -- ---- by a position
 

@@ -40,10 +40,10 @@ guarded_err false d k x e = absurd cc
 abbrev Taken : {A : Type 0} → Format A → Place → A × Place → Type 0
 Taken f p x = Takes f p x.0 x.1 × IsBytes x.1.rest
 
-abbrev ok : {A : Type 0} → A → Result A ℕ
+abbrev pub ok : {A : Type 0} → A → Result A ℕ
 ok x = Ok x
 
-ok_is : {A : Type 0} (x y : A) → ok x ≡ ok y → x ≡ y
+pub ok_is : {A : Type 0} (x y : A) → ok x ≡ ok y → x ≡ y
 ok_is x y e = cc
 
 number_takes : (size : Size) (p : Place) (x : ℕ × Place) → IsBytes p.rest → number_at size p ≡ Ok x → Taken (Format.number size) p x

@@ -19,17 +19,10 @@ use Rattle.sm_model.specs.declared.world.WorldSnapshot.{WorldSnapshot}
 use Rattle.sm_shape.specs.Blank.{blank_block, blank_image, blank_snapshot}
 use Rattle.sm_shape.specs.Marks.{AtOnePlace, one_map}
 use Rattle.sm_shape.proofs.ListWords.{among_index}
+use Rattle.sm_shape.proofs.FamiliesLemmas.{tags_blank}
 use Rattle.sm_shape.proofs.TagsLemmas.{at_blank}
 use Rattle.sm_fit.specs.Maps.{numbers_in, map_of, base_map}
 use Rattle.sm_fit.proofs.Counted.{OnceIn}
-
-pub tags_blank : (m : List ℕ) → tags (blank_image m) ≡ m
-tags_blank [] = refl
-tags_blank (n ∷ ns) = ap (λ l. n ∷ l) (tags_blank ns)
-
-pub blank_maps : (ss : List WorldSnapshot) → map image_of (map blank_snapshot ss) ≡ map blank_image (flat_map one_map ss)
-blank_maps [] = refl
-blank_maps (s ∷ ss) = ap (λ l. blank_image s.map.items ∷ l) (blank_maps ss)
 
 -- a number that stands at a place stands among the tags
 pub stands_tag : (maps : List (List ℕ)) (n p : ℕ) → StandsAt maps n p → stands n (flat_map tags (map blank_image maps)) ≡ true
@@ -74,14 +67,6 @@ image_found ss i = ap image_or_none (find_blank i ss) ∙ go (find (λ s. same_i
 pub base_found : (ss : List WorldSnapshot) (base : Option Ident) → image_or_none (snapshot_of (map blank_snapshot ss) base) ≡ blank_image (base_map ss base)
 base_found ss None = refl
 base_found ss (Some i) = image_found ss i
-
--- the snapshot that is there
-pub leg_there : (ss : List Snapshot) (i : Ident) → has ss i ≡ true → (leg : Snapshot) × (snapshot_of ss (Some i) ≡ Some leg)
-leg_there ss i e = go (find (λ s. same_ident s.ident i) ss) refl
-  where
-    go : (o : Option Snapshot) → find (λ s. same_ident s.ident i) ss ≡ o → (leg : Snapshot) × (snapshot_of ss (Some i) ≡ Some leg)
-    go None is = absurd (both_ways (has ss i) (find_none (λ s. same_ident s.ident i) ss is) e)
-    go (Some leg) is = (leg, is)
 
 -- its numbers stand once, as those of all maps at one place
 pub once_found : (ss : List WorldSnapshot) (i : Ident) → OnePlace (flat_map one_map ss) → OnceIn (map_of ss i)

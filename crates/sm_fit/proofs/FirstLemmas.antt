@@ -11,7 +11,7 @@ use Rattle.sm_model.specs.declared.world.WorldSnapshot.{WorldSnapshot}
 use Rattle.sm_shape.specs.Blank.{blank_snapshot}
 use Rattle.sm_shape.proofs.ListWords.{all_among, among_all}
 use Rattle.sm_fit.specs.Shipped.{IsThere, IsBelow, IsWithin, IsToFit}
-use Rattle.sm_fit.proofs.BlankLemmas.{leg_there}
+use Rattle.sm_model.proofs.Found.{found_one}
 
 -- the source has the leg, so many blocks are to be shipped, and they have room
 pub record Bounded (x : Running) (ss : List WorldSnapshot) (i : Ident) (n : ℕ) : Type 0 where
@@ -34,7 +34,7 @@ module _ (x : Running) (ss : List WorldSnapshot) (source : map blank_snapshot ss
 
   pub fits_bounded : FirstLegFits x i → Bounded x ss i n
   fits_bounded f =
-      let leg = leg_there x.source.snapshots i f.there in
+      let leg = found_one x.source.snapshots i f.there in
       let is = costs leg.0 leg.1 in
       record {
         there = ap (λ l. has l i) source ∙ f.there;

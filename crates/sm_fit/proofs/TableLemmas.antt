@@ -19,7 +19,9 @@ use Rattle.sm_shape.proofs.TagsLemmas.{images_are}
 use Rattle.sm_shape.proofs.TakesSteps.{Within}
 use Rattle.sm_fit.specs.Tables.{is_marked, is_new}
 use Rattle.sm_fit.proofs.Counted.{OnceIn, Marks, once_long, distinct_marked}
-use Rattle.sm_fit.proofs.BlankLemmas.{tags_blank, blank_maps, stands_tag, tag_stands}
+use Rattle.sm_fit.proofs.BlankLemmas.{stands_tag, tag_stands}
+use Rattle.sm_shape.proofs.FamiliesLemmas.{tags_blank}
+use Rattle.sm_shape.proofs.TagsLemmas.{blank_images}
 
 abbrev all_tags : List (List ℕ) → List ℕ
 all_tags maps = flat_map tags (map blank_image maps)
@@ -122,7 +124,7 @@ cost_counted most table m ds is once =
     ∙ (once_long (is_new table) refl m once ∙ length-filter (is_new table) m))
   where
     same : (n : ℕ) → is_new table n ≡ is_missing_tag (map blank_snapshot ds) n
-    same n = new_is most table (flat_map one_map ds) is n ∙ ap (λ (l : List Image). not (n == 0) && not (stands n (flat_map tags l))) (sym (blank_maps ds))
+    same n = new_is most table (flat_map one_map ds) is n ∙ ap (λ (l : List Image). not (n == 0) && not (stands n (flat_map tags l))) (sym (blank_images ds))
 
 pub used_counted : (v : WorldVolume) (table : List ℕ) → IsTableOf (v.physical + 1) table (maps_of v) → AtOnePlace (v.physical + 1) (maps_of v) → used (blank_volume v) ≡ count_by is_marked (drop 1 table)
 used_counted v table is one =

@@ -7,7 +7,7 @@ use Rattle.sm_slots.specs.Stored.{Stored, Blank, Record, BadLength, stored}
 use Rattle.sm_fields.specs.Format.{Format}
 use Rattle.sm_fields.specs.Grammar.{Spells, Fault, FirstFault}
 use Rattle.sm_fields.specs.Place.{Place}
-use Rattle.sm_fields.proofs.Exact.{read_again}
+use Rattle.sm_fields.proofs.Exact.{ok, ok_is, read_again}
 use Rattle.sm_root.specs.declared.root.Root.{Root}
 use Rattle.sm_root.specs.Layout.{root_record}
 use Rattle.sm_root.specs.Spelling.{spelling}
@@ -19,12 +19,6 @@ use Rattle.volume_store.proofs.RootRead.{record_same}
 use Rattle.volume_store.specs.Held.{need}
 use Rattle.volume_store.specs.Opened.{IsRootOn, IsNoRootOn}
 use Rattle.sm_opening.specs.OnDisk.{Disks, Damage, image_at, LiesOn, IsVolumeOn, IsVolumeDamage}
-
-abbrev ok : {A : Type 0} → A → Result A ℕ
-ok x = Ok x
-
-ok_is : {A : Type 0} (x y : A) → ok x ≡ ok y → x ≡ y
-ok_is x y e = cc
 
 abbrev Read : {A : Type 0} → A → ℕ → List ℕ → Result (A × Place) ℕ
 Read value at rest = ok (value, record { at = at; rest = rest })
@@ -59,10 +53,10 @@ first_fault_apart f v bytes at s (inr (w, other, behind, begins, some, is)) =
     omega (arith, some, none)
 
 -- a disk's record is a root or has a fault, and not both
-not_both : (s x y : Stored) → (x ≡ y → ⊥) → s ≡ x → s ≡ y → ⊥
+pub not_both : (s x y : Stored) → (x ≡ y → ⊥) → s ≡ x → s ≡ y → ⊥
 not_both s x y apart e f = apart (sym e ∙ f)
 
-root_apart : (c : Image) (r : Root) (at : ℕ) → IsRootOn c r → IsNoRootOn c at → ⊥
+pub root_apart : (c : Image) (r : Root) (at : ℕ) → IsRootOn c r → IsNoRootOn c at → ⊥
 root_apart c r at on (inl blank) = not_both (stored c) Blank (Record (spelling r)) (λ e. cc) blank.0 on.spelled
 root_apart c r at on (inr (inl long)) = not_both (stored c) BadLength (Record (spelling r)) (λ e. cc) long.0 on.spelled
 root_apart c r at on (inr (inr (bytes, is, fault))) =

@@ -13,7 +13,9 @@ use Rattle.sm_model.specs.declared.world.OpenKind.TheVariants.{Record, Cross}
 use Rattle.sm_shape.specs.Crossing.{IsFirstCrossing}
 use Rattle.sm_shape.specs.Blanked.{blanked}
 use Rattle.sm_opening.specs.OnDisk.{Disks, AreBytes, Damage, damage, record_start, image_at, world_of, IsCatalogOn, IsCatalogFault, IsCatalogDamage, LiesOn, LiesNowhere, IsVolumeOn, IsRootDamage, IsRecordDamage, IsDiskDamage, IsVolumeDamage, AreVolumesOn, IsFirstDamage, relation_start, IsShaped, IsReadWorld, Spells, IsWholeDamage, IsDamage}
-use Rattle.sm_opening.proofs.RecordsOnce.{one_catalog, catalog_apart, one_break, one_root, root_apart, one_no_root}
+use Rattle.sm_opening.proofs.RecordsOnce.{one_catalog, catalog_apart, one_break, one_root, one_no_root}
+use Rattle.sm_opening.proofs.NoFault.{root_apart, volume_apart}
+use Rattle.sm_opening.proofs.VolumesWalk.{volumes_apart}
 
 over : (a b : ℕ) → a < b → b ≤ a → ⊥
 over a b less more = omega (arith, less, more)
@@ -81,20 +83,6 @@ module _ (d : Disks) where
     one_catalog_damage f g (inr (size, is, fault)) (inr (n, here, other)) =
         one_catalog_fault n f g (subst (λ (m : ℕ). IsCatalogFault d m f) (same_Some size n (sym is ∙ here)) fault) other
 
-    volume_fault_apart : (before : List Placed) (i : ℕ) (p : Placed) (r : Root) (f : Damage) → IsVolumeOn d before i p r → IsVolumeDamage d before i p f → ⊥
-    volume_fault_apart before i p r f on (inl (bars, e)) = nowhere before p on.size on.lies bars
-    volume_fault_apart before i p r f on (inr (size, lies, inl (less, e))) =
-        over size _ less (subst (λ (n : ℕ). _ ≤ n) (the_size before p on.size size on.lies lies) on.long)
-    volume_fault_apart before i p r f on (inr (size, lies, inr (long, inl (from, none, e)))) = root_apart (image_at d p) (small p.disk.0) r from on.root none
-    volume_fault_apart before i p r f on (inr (size, lies, inr (long, inr (s, is, fault)))) = fault_apart fault
-      where
-        same : s ≡ r
-        same = one_root (image_at d p) s r is on.root
-
-        fault_apart : IsRootDamage d i p size s f → ⊥
-        fault_apart (inl (less, e)) = over size _ (rw same at less) (subst (λ (n : ℕ). _ ≤ n) (the_size before p on.size size on.lies lies) on.room)
-        fault_apart (inr (room, other, e)) = other (ap (λ (x : Root). x.number.0) same ∙ on.numbered)
-
     one_root_damage : (i : ℕ) (p : Placed) (size : ℕ) (r : Root) (f g : Damage) → IsRootDamage d i p size r f → IsRootDamage d i p size r g → f ≡ g
     one_root_damage i p size r f g (inl (less, e)) (inl (also, h)) = e ∙ sym h
     one_root_damage i p size r f g (inl (less, e)) (inr (room, other, h)) = absurd (over size _ less room)
@@ -104,8 +92,8 @@ module _ (d : Disks) where
     one_record_damage : (i : ℕ) (p : Placed) (size : ℕ) (f g : Damage) → IsRecordDamage d i p size f → IsRecordDamage d i p size g → f ≡ g
     one_record_damage i p size f g (inl (from, none, e)) (inl (at, here, h)) =
         e ∙ ap (λ n. damage p.disk.0 (record_start (image_at d p) + n) Record) (one_no_root (image_at d p) (small p.disk.0) from at none here) ∙ sym h
-    one_record_damage i p size f g (inl (from, none, e)) (inr (r, is, fault)) = absurd (root_apart (image_at d p) (small p.disk.0) r from is none)
-    one_record_damage i p size f g (inr (r, is, fault)) (inl (from, none, h)) = absurd (root_apart (image_at d p) (small p.disk.0) r from is none)
+    one_record_damage i p size f g (inl (from, none, e)) (inr (r, is, fault)) = absurd (root_apart (image_at d p) r from is none)
+    one_record_damage i p size f g (inr (r, is, fault)) (inl (from, none, h)) = absurd (root_apart (image_at d p) r from is none)
     one_record_damage i p size f g (inr (r, is, fault)) (inr (s, here, other)) =
         one_root_damage i p size s f g (subst (λ (x : Root). IsRootDamage d i p size x f) (one_root (image_at d p) r s is here) fault) other
 
@@ -122,17 +110,11 @@ module _ (d : Disks) where
     one_volume_damage before i p f g (inr (size, lies, fault)) (inr (n, here, other)) =
         one_disk_damage i p n f g (subst (λ (m : ℕ). IsDiskDamage d i p m f) (the_size before p size n lies here) fault) other
 
-    volumes_apart : (before : List Placed) (i : ℕ) (ps : List Placed) (rs : List Root) (f : Damage) → AreVolumesOn d before i ps rs → IsFirstDamage d before i ps f → ⊥
-    volumes_apart before i [] rs f are fault = fault
-    volumes_apart before i (p ∷ ps) [] f are fault = are
-    volumes_apart before i (p ∷ ps) (r ∷ rs) f are (inl fault) = volume_fault_apart before i p r f are.0 fault
-    volumes_apart before i (p ∷ ps) (r ∷ rs) f are (inr (s, on, later)) = volumes_apart (before ++ p ∷ []) (suc i) ps rs f are.1 later
-
     one_first_damage : (before : List Placed) (i : ℕ) (ps : List Placed) (f g : Damage) → IsFirstDamage d before i ps f → IsFirstDamage d before i ps g → f ≡ g
     one_first_damage before i [] f g a b = absurd a
     one_first_damage before i (p ∷ ps) f g (inl a) (inl b) = one_volume_damage before i p f g a b
-    one_first_damage before i (p ∷ ps) f g (inl a) (inr (r, on, b)) = absurd (volume_fault_apart before i p r f on a)
-    one_first_damage before i (p ∷ ps) f g (inr (r, on, a)) (inl b) = absurd (volume_fault_apart before i p r g on b)
+    one_first_damage before i (p ∷ ps) f g (inl a) (inr (r, on, b)) = absurd (volume_apart d before i p r on f a)
+    one_first_damage before i (p ∷ ps) f g (inr (r, on, a)) (inl b) = absurd (volume_apart d before i p r on g b)
     one_first_damage before i (p ∷ ps) f g (inr (r, on, a)) (inr (s, too, b)) = one_first_damage (before ++ p ∷ []) (suc i) ps f g a b
 
     -- ---- the whole
@@ -160,7 +142,7 @@ module _ (d : Disks) where
 
     -- where the records were read, no volume has a fault
     read_apart : (j k : Catalog) (rs : List Root) (f : Damage) → IsReadWorld d j rs → IsCatalogOn d k → IsFirstDamage d [] 0 k.volumes f → ⊥
-    read_apart j k rs f read on fault = volumes_apart [] 0 j.volumes rs f read.volumes (moved_first k j f (the_catalog k j on read.catalog) fault)
+    read_apart j k rs f read on fault = volumes_apart d [] 0 j.volumes rs f read.volumes (moved_first k j f (the_catalog k j on read.catalog) fault)
 
     pub one_fault_of : (f g : Damage) → IsDamage d f → IsDamage d g → f ≡ g
     one_fault_of f g (inl a) (inl b) = one_catalog_damage f g a b

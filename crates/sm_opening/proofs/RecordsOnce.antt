@@ -21,6 +21,7 @@ use Rattle.sm_catroot.specs.Layout.{catalog_record}
 use Rattle.sm_catroot.specs.Kept.{ShowsCatalog, BreaksCatalog}
 use Rattle.sm_catroot.proofs.Decoded.{one_value, written_is_read}
 use Rattle.volume_store.proofs.RootRead.{record_same}
+use Rattle.sm_opening.proofs.NoFault.{not_both}
 use Rattle.volume_store.specs.Opened.{DiffersFirst, IsRootOn, IsNoRootOn}
 
 -- ---- bytes
@@ -102,10 +103,6 @@ one_break c small a b = broken_once (stored c) (are_bytes c small) (part c (slot
 pub one_root : (c : Image) (r s : Root) → IsRootOn c r → IsRootOn c s → r ≡ s
 one_root c r s a b = round.one_value r s a.good b.good (record_same (roots.spelling r) (roots.spelling s) (stored c) a.spelled b.spelled)
 
--- one slot does not spell two things
-not_both : (s x y : Stored) → (x ≡ y → ⊥) → s ≡ x → s ≡ y → ⊥
-not_both s x y apart e f = apart (sym e ∙ f)
-
 blank_record : (xs : List ℕ) → Blank ≡ Record xs → ⊥
 blank_record xs e = cc
 
@@ -118,14 +115,6 @@ blank_long e = cc
 module _ (c : Image) (small : HoldsBytes c) where
   stops : (bytes : List ℕ) (at : ℕ) → stored c ≡ Record bytes → FirstFault (root_record (length bytes)) bytes at → whole (root_record (length bytes)) bytes ≡ Err at
   stops bytes at is fault = whole_stops (root_record (length bytes)) bytes at (are_bytes c small bytes is) fault
-
-  pub root_apart : (r : Root) (at : ℕ) → IsRootOn c r → IsNoRootOn c at → ⊥
-  root_apart r at on (inl blank) = not_both (stored c) Blank (Record (roots.spelling r)) (blank_record (roots.spelling r)) blank.0 on.spelled
-  root_apart r at on (inr (inl long)) = not_both (stored c) BadLength (Record (roots.spelling r)) (long_record (roots.spelling r)) long.0 on.spelled
-  root_apart r at on (inr (inr (bytes, is, fault))) =
-      no_both (whole (root_record (length bytes)) bytes) r at
-      (subst (λ (x : List ℕ). whole (root_record (length x)) x ≡ Ok r) (record_same (roots.spelling r) bytes (stored c) on.spelled is) (round.written_is_read r on.good))
-      (stops bytes at is fault)
 
   first_differs : (a b : ℕ) → DiffersFirst (part c (slot_start (slot_of c)) 8) a → DiffersFirst (part c (slot_start (slot_of c)) 8) b → a ≡ b
   first_differs a b p q = elim (cases_order a b) [

@@ -9,7 +9,8 @@ use Rattle.std.proofs.lemmas.List.{length-set, length-map, length-append}
 use Rattle.std.proofs.lemmas.Option.{same_Some, none-some, slice_get_within, slice_get_cases, slice_get-map}
 use Rattle.sm_base.specs.declared.limits.TheConstants.{MOST_VOLUMES}
 use Rattle.sm_defs.specs.Words.{Among, KeysDiffer}
-use Rattle.sm_defs.proofs.Members.{from_map, get_among, any_among, among_any, among_map, each_among}
+use Rattle.sm_defs.proofs.Members.{from_map, among_place, get_among, any_among, among_any, among_map, each_among}
+use Rattle.sm_seats.proofs.Lists.{some_at, last_or}
 use Rattle.sm_disk.specs.Disk.{DiskState, IsSynced}
 use Rattle.sm_register.specs.Opened.{FoundValue}
 use Rattle.sm_register.specs.Registered.{Registered, registered}
@@ -35,32 +36,11 @@ set_other (z ∷ xs) zero y (suc n) x other is = is
 set_other (z ∷ xs) (suc i) y zero x other is = is
 set_other (z ∷ xs) (suc i) y (suc n) x other is = set_other xs i y n x (λ same. other (ap suc same)) is
 
-pushed_at : {X : Type 0} (xs : List X) (y : X) (i : ℕ) (a : X) → slice_get (xs ++ y ∷ []) i ≡ Some a → ((i < length xs) × (slice_get xs i ≡ Some a)) ⊎ ((i ≡ length xs) × (y ≡ a))
-pushed_at [] y zero a e = inr (refl, same_Some y a e)
-pushed_at [] y (suc i) a e = absurd (none-some a e)
-pushed_at (x ∷ xs) y zero a e = inl (omega arith, e)
-pushed_at (x ∷ xs) y (suc i) a e = go (pushed_at xs y i a e)
-  where
-    go : ((i < length xs) × (slice_get xs i ≡ Some a)) ⊎ ((i ≡ length xs) × (y ≡ a)) → ((suc i < length (x ∷ xs)) × (slice_get xs i ≡ Some a)) ⊎ ((suc i ≡ length (x ∷ xs)) × (y ≡ a))
-    go (inl (lt, is)) = inl (omega (arith, lt), is)
-    go (inr (same, is)) = inr (ap suc same, is)
-
 front_at : {X : Type 0} (xs : List X) (k j : ℕ) (x : X) → j < k → slice_get xs j ≡ Some x → slice_get (take k xs) j ≡ Some x
 front_at xs zero j x lt is = absurd (omega (arith, lt))
 front_at [] (suc k) j x lt is = is
 front_at (y ∷ xs) (suc k) zero x lt is = is
 front_at (y ∷ xs) (suc k) (suc j) x lt is = front_at xs k j x (omega (arith, lt)) is
-
-among_at : {X : Type 0} (xs : List X) (x : X) → Among xs x → (k : ℕ) × (slice_get xs k ≡ Some x)
-among_at [] x a = absurd a
-among_at (y ∷ xs) x (inl e) = (0, ap Some (sym e))
-among_at (y ∷ xs) x (inr a) = let (k, is) = among_at xs x a in (suc k, is)
-
-there_at : {X : Type 0} (xs : List X) (k : ℕ) → k < length xs → (x : X) × (slice_get xs k ≡ Some x)
-there_at xs k lt = elim ((slice_get_cases xs k).1) [
-  | inl (x, within, is, at) ↦ (x, is)
-  | inr (past, none) ↦ absurd (omega (arith, lt, past))
-]
 
 -- the next of a list that is gone through
 pub next_at : {X : Type 0} (xs ys all : List X) (x : X) → xs ++ x ∷ ys ≡ all → (length xs < length all) × (slice_get all (length xs) ≡ Some x)
@@ -77,7 +57,7 @@ disks_differ {D} (x ∷ xs) h = (each_among (λ (m : ℕ). ¬ (m ≡ x.disk)) (m
     other : (m : ℕ) → Among (map disk_number xs) m → ¬ (m ≡ x.disk)
     other m a =
         let (s, member, e) = from_map disk_number xs m a in
-        let (k, is) = among_at xs s member in
+        let (k, is) = among_place xs s member in
         λ same. h 0 (suc k) x s (omega arith) refl is (sym e ∙ same)
 
 -- ---- disks that lie apart
@@ -132,7 +112,7 @@ module _ {D : Type 0} (state : D → DiskState) (ps : List Placed) (fs : List Fo
       }
 
       each_now : (k : ℕ) (q : Placed) (h : FoundMaps) (t : Seated D) → slice_get ps k ≡ Some q → slice_get fs k ≡ Some h → slice_get (seats ++ s ∷ []) k ≡ Some t → IsSeatFrom state olds q.disk.0 h t
-      each_now k q h t at_q at_h at_t = elim (pushed_at seats s k t at_t) [
+      each_now k q h t at_q at_h at_t = elim (last_or seats s k t at_t) [
         | inl (lt, before) ↦ so_far.each k q h t at_q at_h before
         | inr (last, same) ↦
             let k_is : k ≡ i = last ∙ so_far.as_many in
@@ -144,7 +124,7 @@ module _ {D : Type 0} (state : D → DiskState) (ps : List Placed) (fs : List Fo
       ]
 
       kept_now : AreAtSeats state (seats ++ s ∷ [])
-      kept_now k t at_t = elim (pushed_at seats s k t at_t) [
+      kept_now k t at_t = elim (last_or seats s k t at_t) [
         | inl (lt, before) ↦ so_far.kept k t before
         | inr (last, same) ↦
             subst (λ (m : ℕ). IsAtSeat state m t) (sym (last ∙ so_far.as_many)) (subst (λ (z : Seated D). IsAtSeat state i z) same at_seat)
@@ -213,22 +193,22 @@ module _ {D : Type 0} (state : D → DiskState) (ds : List D) where
       placed_at : (k : ℕ) (s : Seated D) → slice_get seats k ≡ Some s → (p : Placed) × (k < length fs) × (slice_get ps k ≡ Some p) × (s.disk ≡ p.disk.0)
       placed_at k s at_s =
           let lt : k < length fs = (let within = slice_get_within seats k s at_s in let many = seated.as_many in omega (arith, within, many)) in
-          let (p, at_p) = there_at ps k (omega (arith, lt, as_many)) in
-          let (f, at_f) = there_at fs k lt in
+          let (p, at_p) = some_at ps k (omega (arith, lt, as_many)) in
+          let (f, at_f) = some_at fs k lt in
           (p, lt, at_p, (seated.each k p f s at_p at_f at_s).starts.disk)
 
       seat_at : (k : ℕ) (p : Placed) → slice_get ps k ≡ Some p → Among (map disk_number seats) p.disk.0
       seat_at k p at_p =
           let within = slice_get_within ps k p at_p in
-          let (s, at_s) = there_at seats k (let many = seated.as_many in omega (arith, within, many, as_many)) in
-          let (f, at_f) = there_at fs k (omega (arith, within, as_many)) in
+          let (s, at_s) = some_at seats k (let many = seated.as_many in omega (arith, within, many, as_many)) in
+          let (f, at_f) = some_at fs k (omega (arith, within, as_many)) in
           subst (λ (n : ℕ). Among (map disk_number seats) n) (seated.each k p f s at_p at_f at_s).starts.disk (among_map disk_number seats s (get_among seats k s at_s))
 
       -- a number of a seat is that of a volume in the catalogue
       placed_of : (n : ℕ) → Among (map disk_number seats) n → (k : ℕ) × (p : Placed) × (k < length fs) × (slice_get ps k ≡ Some p) × (n ≡ p.disk.0)
       placed_of n a =
           let (s, member, e) = from_map disk_number seats n a in
-          let (k, at_s) = among_at seats s member in
+          let (k, at_s) = among_place seats s member in
           let (p, lt, at_p, same) = placed_at k s at_s in
           (k, p, lt, at_p, e ∙ same)
 
@@ -269,7 +249,7 @@ module _ {D : Type 0} (state : D → DiskState) (ds : List D) where
               let (m, a, e) = among_any (λ (m : ℕ). m == n) (map disk_number seats) used in
               inr (subst (λ (k : ℕ). Among (map disk_number seats) k) (eqb-true m n e) a)
           | inr free ↦
-              let (d, is) = there_at ds n (let lt = slice_get_within news n None none in let long = news_length in omega (arith, lt, long)) in
+              let (d, is) = some_at ds n (let lt = slice_get_within news n None none in let long = news_length in omega (arith, lt, long)) in
               let there = spare_at n d is other (λ k p at_p same.
               true≢false (sym (any_among (λ (m : ℕ). m == n) (map disk_number seats) p.disk.0 (seat_at k p at_p) (grind (arith, nat_tests, same))) ∙ free)) in
               absurd (none-some d (same_Some None (Some d) (sym none ∙ there)))
@@ -288,7 +268,7 @@ module _ {D : Type 0} (state : D → DiskState) (ds : List D) where
       seat_of : (k : ℕ) (p : Placed) (f : FoundMaps) (s : Seated D) → slice_get ps k ≡ Some p → slice_get fs k ≡ Some f → slice_get seats k ≡ Some s → IsSeatOf state ds p f s
       seat_of k p f s at_p at_f at_s =
           let is = seated.each k p f s at_p at_f at_s in
-          let (d, there) = there_at ds p.disk.0 (lies_below (length ds) ps k p apart at_p) in
+          let (d, there) = some_at ds p.disk.0 (lies_below (length ds) ps k p apart at_p) in
           let same = hand_other p.disk.0 d (behind (length ds) ps apart k p at_p) there in
           record {
             device = there ∙ same_Some (Some d) (Some (device s)) (sym same ∙ is.device);
@@ -298,7 +278,7 @@ module _ {D : Type 0} (state : D → DiskState) (ds : List D) where
       all_up : (k : ℕ) (s : Seated D) → slice_get seats k ≡ Some s → s.volume.up ≡ true
       all_up k s at_s =
           let (p, lt, at_p, same) = placed_at k s at_s in
-          let (f, at_f) = there_at fs k lt in
+          let (f, at_f) = some_at fs k lt in
           ap (λ v. v.up) (seated.each k p f s at_p at_f at_s).starts.volume
 
       module _ (k : FoundValue Catalog) (is_ps : k.value.volumes ≡ ps) (r : Registered D Catalog) (is_root : r ≡ record { disk = r.disk; selected = k.number; held = k.value; after = None; up = true })

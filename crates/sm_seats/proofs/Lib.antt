@@ -1,4 +1,4 @@
-mod Lists
+pub mod Lists
 mod Gathered
 mod Moving
 mod Numbering

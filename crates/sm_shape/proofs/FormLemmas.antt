@@ -18,7 +18,7 @@ use Rattle.sm_shape.proofs.ListWords.{all_among, among_all, each_image}
 use Rattle.sm_shape.proofs.TagsLemmas.{images_are, stored_stands}
 use Rattle.sm_shape.proofs.PlacesLemmas.{hole_is}
 
-long_zeros : length zeros ≡ 4096
+pub long_zeros : length zeros ≡ 4096
 unfolding zeros
 long_zeros = length-replicate {A = ℕ} 4096 0
 
@@ -27,7 +27,7 @@ among_same zero x y a = absurd a
 among_same (suc n) x y (inl same) = same
 among_same (suc n) x y (inr later) = among_same n x y later
 
-zero_byte : (y : ℕ) → Among zeros y → y ≡ 0
+pub zero_byte : (y : ℕ) → Among zeros y → y ≡ 0
 unfolding zeros
 zero_byte y a = among_same 4096 0 y a
 

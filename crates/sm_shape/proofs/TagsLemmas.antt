@@ -14,7 +14,7 @@ use Rattle.sm_defs.specs.Places.{StandsAt}
 use Rattle.sm_shape.specs.Marks.{AtOnePlace, one_map, maps_of}
 use Rattle.sm_defs.proofs.Members.{among_map, from_map}
 
-blank_images : (ss : List WorldSnapshot) → map image_of (map blank_snapshot ss) ≡ map blank_image (flat_map one_map ss)
+pub blank_images : (ss : List WorldSnapshot) → map image_of (map blank_snapshot ss) ≡ map blank_image (flat_map one_map ss)
 blank_images [] = refl
 blank_images (s ∷ ss) = ap (λ l. blank_image s.map.items ∷ l) (blank_images ss)
 

@@ -57,13 +57,6 @@ pub if_ok_more : {T E : Type 0} (r : Result T E) (P Q : T → Type 0) → ((x : 
 if_ok_more (Ok x) P Q more is = more x is
 if_ok_more (Err e) P Q more is = tt
 
-pub found_one : {X : Type 0} (p : X → Bool) (xs : List X) → list_any p xs ≡ true → (x : X) × (find p xs ≡ Some x)
-found_one p xs is = go (find p xs) (find_tells p xs) refl
-  where
-    go : (o : Option _) → Tells p xs o → find p xs ≡ o → (x : _) × (find p xs ≡ Some x)
-    go None none e = absurd (false≢true (sym none ∙ is))
-    go (Some x) some e = (x, e)
-
 same_self : (i : Ident) → same_ident i i ≡ true
 same_self i =
     let origin : (i.origin == i.origin) ≡ true = grind (arith, nat_tests) in

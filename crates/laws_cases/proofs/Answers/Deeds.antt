@@ -1,5 +1,5 @@
 -- What takes effect is an answer or a step, and is told as no refusal.
-use Rattle.std.proofs.Common.{◌≡◌, ◌⊎◌, ℕ, Option, Some, None, Ok, Err, sym, subst, inl, inr}
+use Rattle.std.proofs.Common.{◌≡◌, ◌⊎◌, ℕ, Bool, Option, Some, None, Ok, Err, sym, subst, inl, inr}
 use Rattle.sm_base.specs.declared.refusal.Refusal.{Refusal}
 use Rattle.sm_model.specs.declared.event.Event.{Event}
 use Rattle.sm_model.specs.declared.event.Event.TheVariants as events
@@ -16,6 +16,17 @@ use Rattle.sm_model.specs.LegalRun.{IsDone, IsStepDeed, IsDeed}
 use Rattle.laws_cases.proofs.Answers.Walk.{OfOk, going, from_ok}
 use Rattle.laws_cases.proofs.Answers.Changes.{Is, IsAnswer, plain, snaps}
 use Rattle.laws_cases.proofs.Answers.OfAnswer.{OfAnswer, of_answer}
+
+-- the world alone answers no worker's step
+no_step_done : (w : Up) (shown : Bool) (d : Deed) → ¬ IsDone (answer w (events.Work shown)) d
+unfolding answer
+no_step_done w shown d h = h
+
+-- what is answered is a deed
+pub done_deed : (e : Event) (d : Deed) → IsDone (answer d.old e) d → IsDeed e d
+unfolding IsDeed
+done_deed (events.Work shown) d h = absurd (no_step_done d.old shown d h)
+done_deed e d h = h
 
 -- an answer that is no refusal
 pub record IsAnswered (e : Event) (d : Deed) : Type 0 where

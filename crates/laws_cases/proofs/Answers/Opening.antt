@@ -11,7 +11,7 @@ mapped_twice : {X : Type 0} (f : X → X) (xs : List X) → ((x : X) → f (f x)
 mapped_twice f [] h = refl
 mapped_twice f (x ∷ xs) h = ap₂ (λ y ys. y ∷ ys) (h x) (mapped_twice f xs h)
 
-restarted_twice : (o : Option Transfer) → restarted (restarted o) ≡ restarted o
+pub restarted_twice : (o : Option Transfer) → restarted (restarted o) ≡ restarted o
 restarted_twice None = refl
 restarted_twice (Some t) = refl
 

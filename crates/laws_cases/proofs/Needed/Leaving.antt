@@ -12,7 +12,8 @@ use Rattle.sm_defs.proofs.Members.{among_append, among_each, among_filter, among
 use Rattle.sm_model.specs.Steps.{snapshot_of}
 use Rattle.laws_transfer.proofs.Lists.{copy_from_has, has_from_copy}
 use Rattle.laws_transfer.proofs.Kept.{begins}
-use Rattle.laws_cases.proofs.Steps.Parties.{snapshot_is, found_one}
+use Rattle.laws_cases.proofs.Steps.Parties.{snapshot_is}
+use Rattle.sm_model.proofs.Found.{found_one}
 use Rattle.laws_cases.proofs.Needed.Needs.{set_cases, split_at, has_within}
 
 -- v has the identity in the one world and not in the other

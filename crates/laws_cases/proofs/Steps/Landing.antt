@@ -23,7 +23,8 @@ use Rattle.sm_model.specs.Steps.{snapshot_of, image_or_none, bases, landing, lis
 use Rattle.laws_transfer.specs.Costs.{tag_at}
 use Rattle.laws_transfer.proofs.Kept.{thins}
 use Rattle.laws_transfer.proofs.Landed.{same_bytes}
-use Rattle.laws_cases.proofs.Steps.Parties.{relation_stands, source_stands, destination_stands, snapshot_is, found_one}
+use Rattle.laws_cases.proofs.Steps.Parties.{relation_stands, source_stands, destination_stands, snapshot_is}
+use Rattle.sm_model.proofs.Found.{found_one}
 
 pub reverted_thins : (p : Policy) (i : Ident) (ss : List Snapshot) → Thinned (as_reverted p i ss) ss
 reverted_thins p i ss = go (is_mirror p.kind)

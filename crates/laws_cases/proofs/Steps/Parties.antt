@@ -24,14 +24,6 @@ destination_stands w k x r c = subst (Among w.volumes) (sym (ap (λ y. y.destina
 pub snapshot_is : (ss : List Snapshot) (i : Ident) (s : Snapshot) → snapshot_of ss (Some i) ≡ Some s → Among ss s × (s.ident ≡ i)
 snapshot_is ss i s e = let q = find_is (λ t. same_ident t.ident i) ss s e in (q.0, same_is s.ident i q.1)
 
-found_in : (z : Snapshot) (o : Option Snapshot) (b c : Bool) → (b || c) ≡ true → (c ≡ true → (s : Snapshot) × (o ≡ Some s)) → (s : Snapshot) × (cond b (Some z) o ≡ Some s)
-found_in z o true c e h = (z, refl)
-found_in z o false c e h = h e
-
-pub found_one : (ss : List Snapshot) (i : Ident) → has ss i ≡ true → (s : Snapshot) × (snapshot_of ss (Some i) ≡ Some s)
-found_one [] i h = absurd (cc)
-found_one (z ∷ zs) i h = found_in z _ (same_ident z.ident i) (has zs i) h (found_one zs i)
-
 pub lacked : (ss : List Snapshot) (i : Ident) (s : Snapshot) → has ss i ≡ false → Among ss s → ¬ (s.ident ≡ i)
 lacked ss i s h m e = true≢false (sym (has_from_copy ss i (s, m, e)) ∙ h)
 

@@ -11,7 +11,7 @@ use Rattle.volume_store.specs.Maps.{Maps}
 use Rattle.volume_store.specs.Next.{reverted}
 use Rattle.volume_store.specs.Refusals.{has_snapshot}
 use Rattle.volume_store.specs.Commits.{BeforeOrAfter}
-use Rattle.volume_store.proofs.FoundLemmas.{found_one}
+use Rattle.sm_defs.proofs.Searches.{find_any}
 use Rattle.volume_store.proofs.held.Store.revert.Goals as goal
 
 abbrev Same : Result Maps VolumeFault → Result Maps VolumeFault → Type 0
@@ -33,7 +33,7 @@ pub returns-in-Err-clause-commits : goal.returns-in-Err-clause-commits
 returns-in-Err-clause-commits g c = λ has.
     let v = c.args.self.now in
     let p : RootSnapshot → Bool = λ t. same_ident t.ident c.args.ident in
-    let one = found_one p v.maps.root.snapshots has in
+    let one = find_any p v.maps.root.snapshots has in
     let next = reverted v.maps one.0.map c.args.family (cond c.args.drop_newer (up_to p v.maps.root.snapshots) v.maps.root.snapshots) in
     let inside : has_snapshot c.self.inside.state.root.snapshots c.args.ident ≡ true = ap (λ (w : Held _). has_snapshot w.maps.root.snapshots c.args.ident) c.self.view_is ∙ has in
     let none : cond (has_snapshot c.self.inside.state.root.snapshots c.args.ident) None (Some NoSnapshot) ≡ None = ap (λ b. cond b None (Some NoSnapshot)) inside in
