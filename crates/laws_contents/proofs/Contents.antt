@@ -1,5 +1,5 @@
 -- Along a run each snapshot has the contents of its origin, and each identity is made once.
-use Rattle.std.proofs.Common.{◌≡◌, true, List, [], ◌∷◌, ◌++◌, None, refl, sym, ap, subst, append_assoc}
+use Rattle.std.proofs.Common.{◌≡◌, true, List, [], ◌∷◌, ◌++◌, None, refl, sym, ap, subst, append_assoc, append-nil}
 use Rattle.std.specs.List.{AllByRecursion}
 use Rattle.sm_base.specs.declared.numbers.Ident.{Ident}
 use Rattle.sm_base.specs.declared.numbers.Side.{Side}
@@ -45,12 +45,8 @@ pub record LeadsOn (start : Up) (before ds : List Deed) (new : World) : Type 0 w
   pub ready : Ready start (before ++ ds) new
   pub once : MadeOnce start before ds
 
-append_none : {X : Type 0} (xs : List X) → xs ++ [] ≡ xs
-append_none [] = refl
-append_none (x ∷ xs) = ap (λ ys. x ∷ ys) (append_none xs)
-
 no_deed : (start : Up) (before : List Deed) (new : World) → Ready start before new → LeadsOn start before [] new
-no_deed start before new r = record { ready = subst (λ ds. Ready start ds new) (sym (append_none before)) r; once = tt }
+no_deed start before new r = record { ready = subst (λ ds. Ready start ds new) (sym (append-nil before)) r; once = tt }
 
 one_deed : (start : Up) (before : List Deed) (d : Deed) → Along start before d.old → Progress d → LeadsOn start before (d ∷ []) (up d.new)
 one_deed start before d a p = record { ready = along_deed start before d a p; once = (λ i m. made_unknown start before d i a p m, tt) }
@@ -72,7 +68,7 @@ each_left P [] ys h = (tt, h)
 each_left P (x ∷ xs) ys h = let q = each_left P xs ys h.1 in ((h.0, q.0), q.1)
 
 once_joined : (start : Up) (before ds es : List Deed) → MadeOnce start before ds → MadeOnce start (before ++ ds) es → MadeOnce start before (ds ++ es)
-once_joined start before [] es h k = subst (λ xs. MadeOnce start xs es) (append_none before) k
+once_joined start before [] es h k = subst (λ xs. MadeOnce start xs es) (append-nil before) k
 once_joined start before (d ∷ ds) es h k = (h.0, once_joined start (before ++ d ∷ []) ds es h.1 (subst (λ xs. MadeOnce start xs es) (sym (append_assoc before (d ∷ []) ds)) k))
 
 of_run : (start : Up) (before : List Deed) (old new : World) (es : List Entry) (sides : List Side) (ds : List Deed) → Run old es sides ds new → Ready start before old → BeginSound ds → LeadsOn start before ds new
@@ -87,7 +83,7 @@ of_run start before old new (e ∷ es) sides ds (first, later, left, mid, asked,
     })
 
 once_at : (start : Up) (before earlier : List Deed) (d : Deed) (later : List Deed) (i : Ident) → MadeOnce start before (earlier ++ d ∷ later) → makes i d ≡ true → origin start (before ++ earlier) i ≡ None
-once_at start before [] d later i h m = subst (λ xs. origin start xs i ≡ None) (sym (append_none before)) (h.0 i m)
+once_at start before [] d later i h m = subst (λ xs. origin start xs i ≡ None) (sym (append-nil before)) (h.0 i m)
 once_at start before (c ∷ earlier) d later i h m = subst (λ xs. origin start xs i ≡ None) (append_assoc before (c ∷ []) earlier) (once_at start (before ++ c ∷ []) earlier d later i h.1 m)
 
 pub made_once : (start : Up) (es : List Entry) (sides : List Side) (earlier : List Deed) (d : Deed) (later : List Deed) (last : World) (i : Ident) →

@@ -11,9 +11,9 @@ use oracle_world::{
 use sha2::{Digest, Sha256};
 use sm_base::{NoMemory, VolNo};
 use sm_model::{
-    Condition, Course, Line, Rules, WorldPolicy, WorldRelation, WorldTransfer, copy_label,
-    copy_rules,
+    Condition, Course, Line, Rules, WorldRelation, WorldRule, WorldTransfer, copy_label,
 };
+use sm_policy::{Policy, Rule};
 use std::alloc::Global;
 
 fn digest(image: &[PlainBlock]) -> [u8; 32]
@@ -94,15 +94,29 @@ pub(crate) fn listed_line(
     })
 }
 
+fn rules_of(alloc: Global, rules: &[Rule]) -> Result<Vec<WorldRule>, NoMemory>
+    ensures { IfOk result (λ all. all.items ≡ rules.now) }
+{
+    let mut all = Vec::new(alloc);
+    for rule in rules {
+        all.push(WorldRule {
+            label: rule.label.copy(alloc)?,
+            keep: rule.keep,
+            preserve: rule.preserve,
+        })?;
+    }
+    Ok(all)
+}
+
 /// The line on a policy.
-pub(crate) fn policy_line(alloc: Global, policy: &WorldPolicy) -> Result<Line, NoMemory>
+pub(crate) fn policy_line(alloc: Global, policy: &Policy) -> Result<Line, NoMemory>
     ensures { IfOk result (λ line. line ≡ model.policy_line policy.now) }
 {
     Ok(Line::Policy {
-        name: policy.name.copy(alloc)?,
-        kind: policy.kind,
+        name: policy.name().copy(alloc)?,
+        kind: policy.kind(),
         rules: Rules {
-            rules: copy_rules(alloc, &policy.rules)?,
+            rules: rules_of(alloc, policy.rules())?,
         },
     })
 }
@@ -156,7 +170,7 @@ pub(crate) fn relation_line(
     let condition = condition(world, relation)?;
     let source = volume_of(world, relation.source)?.path.copy(alloc)?;
     let destination = volume_of(world, relation.destination)?.path.copy(alloc)?;
-    let policy = policy_of(world, relation)?.name.copy(alloc)?;
+    let policy = policy_of(world, relation)?.name().copy(alloc)?;
     Ok(Line::Relationship {
         relation: relation.number,
         source,

@@ -14,7 +14,8 @@ use oracle_relations::relation;
 use oracle_volumes::{place_of, refuse_path};
 use oracle_world::{PlainFault, PlainNumber, PlainVolume, PlainWorld, small, snapshots_at};
 use sm_base::{NoMemory, Path, RelNo, VolNo};
-use sm_model::{Line, Lines, Reply, WorldPolicy, WorldRelation};
+use sm_model::{Line, Lines, Reply, WorldRelation};
+use sm_policy::Policy;
 use std::alloc::Global;
 
 fn volume_lines(alloc: Global, first: u32, volumes: &[PlainVolume]) -> Result<Vec<Line>, PlainFault>
@@ -84,7 +85,7 @@ pub fn show_snapshots(world: &PlainWorld, alloc: Global, path: &Path) -> Result<
     })
 }
 
-fn policy_lines(alloc: Global, policies: &[WorldPolicy]) -> Result<Vec<Line>, NoMemory>
+fn policy_lines(alloc: Global, policies: &[Policy]) -> Result<Vec<Line>, NoMemory>
     ensures { IfOk result (λ lines. lines.items ≡ map model.policy_line policies.now) }
 {
     match policies {

@@ -1,40 +1,22 @@
 -- Lists with a first element, and a number put in its place.
-use Rattle.std.proofs.Common.{◌≡◌, ◌<◌, ◌-◌, ℕ, suc, ◌==◌, nat_lt, Bool, true, false, cond, List, [], ◌∷◌, ◌++◌, length, take, drop, get_or, Option, Some, refl, sym, subst, ap, arith}
+use Rattle.std.proofs.Common.{◌≡◌, ◌<◌, ◌-◌, ℕ, suc, ◌==◌, ◌||◌, nat_lt, Bool, true, false, cond, List, [], ◌∷◌, ◌++◌, length, take, drop, get_or, Some, refl, sym, subst, ap, arith}
 use Rattle.std.proofs.lemmas.Bool.{ltb-true, ltb-false, lt-ltb, le-ltb, eqb-true, eq-eqb, ne_eqb, both_ways, and_from, and_parts}
 use Rattle.std.proofs.Math.Seq.{take-length}
-use Rattle.std.specs.List.{insert}
-use Rattle.sm_base.specs.declared.numbers.Ident.{Ident}
+use Rattle.std.specs.List.{insert, list_any, find}
+use Rattle.std.specs.Option.{is_some}
 use Rattle.sm_defs.specs.Volume.{Snapshot}
-use Rattle.sm_defs.specs.Relationship.{Rule}
 use Rattle.sm_defs.specs.Legs.{only_newest}
 use Rattle.sm_defs.specs.Missing.{insert_once}
-use Rattle.sm_defs.specs.Retention.{is_reached, keep_reached, with_kept, keeps, label_of}
 use Rattle.oracle_lists.specs.Places.{place_of, is_at}
 
 -- a list's others, as a pattern takes them
 pub others_are : {X : Type 0} (xs : List X) → take (suc (length xs) - 1) xs ≡ xs
 others_are xs = let e : suc (length xs) - 1 ≡ length xs = omega arith in rw e (take-length xs)
 
-pub kept_too : (rules : List Rule) (needs : Ident → Bool) (s copy : Snapshot) (kept : List Snapshot) → copy ≡ s → keeps rules label_of needs s kept ≡ true → with_kept rules label_of needs s kept ≡ copy ∷ kept
-kept_too rules needs s copy kept e h = rw h (ap (λ x. x ∷ kept) (sym e))
-
-pub left_out : (rules : List Rule) (needs : Ident → Bool) (s : Snapshot) (kept : List Snapshot) → keeps rules label_of needs s kept ≡ false → kept ≡ with_kept rules label_of needs s kept
-left_out rules needs s kept h = rw h refl
-
 pub newest_of_one : (ss : List Snapshot) → length ss < 2 → only_newest ss ≡ ss
 newest_of_one [] l = refl
 newest_of_one (s ∷ []) l = refl
 newest_of_one (s ∷ t ∷ ss) l = absurd (omega arith)
-
-pub reached_here : (rules : List Rule) (there coming : List (Option (List ℕ))) (rule : Rule) → 0 < length rules → rule ≡ get_or rules 0 rule → is_reached there coming rule ≡ true → keep_reached rules there coming ≡ Some rule
-reached_here [] there coming rule l e h = absurd (omega arith)
-reached_here (r ∷ rs) there coming rule l e h = rw (subst (λ x. is_reached there coming x ≡ true) e h) (ap Some (sym e))
-
-pub reached_later : (rules : List Rule) (there coming : List (Option (List ℕ))) (rule : Rule) → 0 < length rules → rule ≡ get_or rules 0 rule → is_reached there coming rule ≡ false →
-    keep_reached rules there coming ≡ keep_reached (take (length rules - 1) (drop 1 rules)) there coming
-reached_later [] there coming rule l e h = absurd (omega arith)
-reached_later (r ∷ rs) there coming rule l e h =
-    rw (subst (λ x. is_reached there coming x ≡ false) e h) (ap (λ xs. keep_reached xs there coming) (sym (others_are rs)))
 
 -- ---- a number in its place
 

@@ -15,9 +15,9 @@ mod sending;
 mod values;
 
 pub use dropping::{common, is_pruned, pruned, sends_all};
-pub use keeping::{keep_reached, retained};
+pub use keeping::{labels_of, retained};
 pub use landing::{first_number, hole, vault_landing};
-pub use lists::{has_copy, has_rule_for, is_among, is_same, same_text, with_first};
+pub use lists::{has_copy, is_among, is_same, same_text, with_first};
 pub use missing::{mirror_cost, missing_places, missing_tags, vault_cost};
 pub use numbers::{landed_prefix, numbers_below, stands};
 pub use sending::{behind, candidates, legs, up_to, without_copies};

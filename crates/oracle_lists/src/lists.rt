@@ -1,15 +1,12 @@
 // What the other functions ask of lists.
-ghost use Rattle.std.specs.Prelude.{◌≡◌, ◌∷◌, Some, IfOk};
+ghost use Rattle.std.specs.Prelude.{◌≡◌, ◌∷◌, IfOk};
 ghost use Rattle.std.specs.Str.{bytes_eq};
-ghost use Rattle.std.specs.Option.{is_some};
 ghost use Rattle.sm_defs.specs.Words.{same_ident, has_ident};
 ghost use Rattle.sm_defs.specs.Volume.{has};
-ghost use Rattle.sm_defs.specs.Relationship.{rule_for};
 ghost use Rattle.sm_defs.specs.Missing.{rest, first_tag};
 
 use crate::values::{PlainBlock, PlainSnapshot};
 use sm_base::{Ident, NoMemory};
-use sm_model::WorldRule;
 
 /// Whether two texts are the same.
 pub fn same_text(one: &[u8], other: &[u8]) -> bool
@@ -42,22 +39,6 @@ pub fn is_among(idents: &[Ident], ident: Ident) -> bool
     match idents {
         [] => false,
         [first, others @ ..] => is_same(*first, ident) || is_among(others, ident),
-    }
-}
-
-/// Whether a rule has the label.
-pub fn has_rule_for(rules: &[WorldRule], label: &[u8]) -> bool
-    ensures { result ≡ is_some (rule_for rules.now (Some label.now)) }
-{
-    match rules {
-        [] => false,
-        [rule, others @ ..] => {
-            if same_text(rule.label.text(), label) {
-                true
-            } else {
-                has_rule_for(others, label)
-            }
-        }
     }
 }
 

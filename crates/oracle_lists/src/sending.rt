@@ -1,18 +1,17 @@
 // Which snapshots a new transfer sends.
 ghost use Rattle.std.specs.Prelude.{not};
-ghost use Rattle.std.specs.Option.{is_some};
-ghost use Rattle.std.specs.Prelude.{◌≡◌, ◌<◌, ◌^◌, Some, IfOk};
+ghost use Rattle.std.specs.Prelude.{◌≡◌, ◌<◌, ◌^◌, IfOk};
 ghost use Rattle.std.specs.List.{filter};
 ghost use Rattle.sm_defs.specs.Words.{same_ident, after, up_to};
 ghost use Rattle.sm_defs.specs.Volume.{has, idents};
-ghost use Rattle.sm_defs.specs.Classes.{ruled, has_class};
+ghost use Rattle.sm_defs.specs.Classes.{has_class};
 ghost use Rattle.sm_defs.specs.Legs.{after_base, candidates, only_newest, made_ident, mirror_legs, vault_legs, legs};
 
 use crate::dropping::sends_all;
-use crate::lists::{has_copy, has_rule_for, is_same, with_first};
+use crate::lists::{has_copy, is_same, with_first};
 use crate::values::{PlainLegs, PlainSnapshot, PlainSource};
-use sm_base::{Ident, Kind, Label, NoMemory, PolicyKind};
-use sm_model::{WorldPolicy, WorldRule};
+use sm_base::{Ident, Kind, NoMemory, PolicyKind};
+use sm_policy::Policy;
 use std::alloc::Global;
 
 /// The snapshots after the first of the identity.
@@ -123,27 +122,15 @@ fn newest_of(snapshots: &[PlainSnapshot]) -> &[PlainSnapshot]
     }
 }
 
-fn has_rule(rules: &[WorldRule], label: &Option<Label>) -> bool
-    ensures { result ≡ is_some (ruled rules.now label.now) }
-{
-    match label {
-        None => false,
-        Some(label) => has_rule_for(rules, label.text()),
-    }
-}
-
-fn has_class(policy: &WorldPolicy, snapshot: &PlainSnapshot) -> bool
+fn has_class(policy: &Policy, snapshot: &PlainSnapshot) -> bool
     ensures { result ≡ has_class policy.now snapshot.now }
 {
-    match policy.kind {
-        PolicyKind::AsyncMirror => true,
-        PolicyKind::Vault => has_rule(&policy.rules, &snapshot.label),
-    }
+    policy.class(&snapshot.label, snapshot.maker).is_some()
 }
 
 fn classed_idents(
     alloc: Global,
-    policy: &WorldPolicy,
+    policy: &Policy,
     snapshots: &[PlainSnapshot],
 ) -> Result<Vec<Ident>, NoMemory>
     ensures { IfOk result (λ all. all.items ≡ idents (filter (has_class policy.now) snapshots.now)) }
@@ -196,7 +183,7 @@ fn of_mirror(
 pub fn legs(
     alloc: Global,
     transfer: u64,
-    policy: &WorldPolicy,
+    policy: &Policy,
     base: Option<Ident>,
     source: &PlainSource,
     destination: &[PlainSnapshot],
@@ -205,7 +192,7 @@ pub fn legs(
     ensures { IfOk result (λ sends. sends ≡ legs transfer policy.now base source.now destination.now) }
 {
     let sent = candidates(alloc, base, &source.snapshots, destination)?;
-    match policy.kind {
+    match policy.kind() {
         PolicyKind::AsyncMirror => {
             let made = Ident {
                 origin: source.number,

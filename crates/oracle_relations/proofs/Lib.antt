@@ -2,3 +2,4 @@ pub mod Begun
 pub mod Holding
 pub mod Onward
 pub mod Whether
+pub mod Reaching

@@ -44,7 +44,7 @@ fn sizes_differ(world: &PlainWorld, policy_place: usize, source: usize, destinat
 {
     let from = volume(world, source);
     let to = volume(world, destination);
-    let mirrors = is_mirror(policy(world, policy_place).kind);
+    let mirrors = is_mirror(policy(world, policy_place).kind());
     from.logical != to.logical || (mirrors && from.physical != to.physical)
 }
 

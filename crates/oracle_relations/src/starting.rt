@@ -8,7 +8,7 @@ ghost use Rattle.oracle_volumes.specs.Answering.{Answers};
 
 use crate::targets::relation;
 use oracle_lists::{
-    PlainLegs, PlainSnapshot, PlainSource, copy_snapshots, is_among, keep_reached, legs,
+    PlainLegs, PlainSnapshot, PlainSource, copy_snapshots, is_among, labels_of, legs,
 };
 use oracle_volumes::policy;
 use oracle_world::{
@@ -17,7 +17,8 @@ use oracle_world::{
 };
 use sm_base::limits::LAST_NUMBER;
 use sm_base::{Ident, Label, NoMemory, Refusal, TransferKind, What};
-use sm_model::{Reply, WorldPolicy, WorldRelation, WorldRule, WorldTransfer, copy_label};
+use sm_model::{Reply, WorldRelation, WorldTransfer, copy_label};
+use sm_policy::Policy;
 use std::alloc::Global;
 
 fn source_of(
@@ -39,7 +40,7 @@ fn source_of(
 pub fn policy_of<'a>(
     world: &'a PlainWorld,
     relation: &WorldRelation,
-) -> Result<&'a WorldPolicy, PlainFault>
+) -> Result<&'a Policy, PlainFault>
     ensures named { IfOk result (λ p. p.now ≡ policy_at world.now relation.now.policy) }
     ensures none { OnErr result (length world.now.policies ≤ relation.now.policy) }
 {
@@ -74,19 +75,6 @@ pub(crate) fn next_legs(
     Ok(legs(alloc, number, policy, base, &source, there)?)
 }
 
-fn labels_of(alloc: Global, snapshots: &[PlainSnapshot]) -> Result<Vec<Option<Label>>, NoMemory>
-    ensures { IfOk result (λ all. all.items ≡ labels snapshots.now) }
-{
-    match snapshots {
-        [] => Ok(Vec::new(alloc)),
-        [snapshot, newer @ ..] => {
-            let mut all = labels_of(alloc, newer)?;
-            all.insert(0, copy_label(alloc, &snapshot.label)?)?;
-            Ok(all)
-        }
-    }
-}
-
 fn labels_among(
     alloc: Global,
     idents: &[Ident],
@@ -109,23 +97,23 @@ fn labels_among(
 #[tactic(auto, unfolding(sm_model::specs::OfTransfers::refused_rule))]
 fn test_rules(
     alloc: Global,
-    rules: &[WorldRule],
+    policy: &Policy,
     there: &[Option<Label>],
     coming: &[Option<Label>],
 ) -> Result<Result<(), Refusal>, NoMemory>
-    ensures { IfOk result (λ answer. answer ≡ model.refused_rule (keep_reached rules.now there.now coming.now)) }
+    ensures { IfOk result (λ answer. answer ≡ model.refused_rule (keep_reached policy.now.rules there.now coming.now)) }
 {
-    match keep_reached(rules, there, coming) {
+    match policy.keep_reached(there, coming) {
         None => Ok(Ok(())),
-        Some(rule) => Ok(Err(Refusal::KeepReached {
-            label: rule.label.copy(alloc)?,
+        Some(label) => Ok(Err(Refusal::KeepReached {
+            label: label.copy(alloc)?,
         })),
     }
 }
 
 fn test_labels(
     alloc: Global,
-    policy: &WorldPolicy,
+    policy: &Policy,
     there: &[PlainSnapshot],
     sent: &[Ident],
     source: &[PlainSnapshot],
@@ -134,20 +122,20 @@ fn test_labels(
 {
     let labels = labels_of(alloc, there)?;
     let coming = labels_among(alloc, sent, source)?;
-    test_rules(alloc, &policy.rules, &labels, &coming)
+    test_rules(alloc, policy, &labels, &coming)
 }
 
 #[tactic(auto, unfolding(sm_model::specs::OfTransfers::refused_rule))]
 fn test_policy(
     alloc: Global,
-    policy: &WorldPolicy,
+    policy: &Policy,
     there: &[PlainSnapshot],
     sent: &[Ident],
     source: &[PlainSnapshot],
 ) -> Result<Result<(), Refusal>, NoMemory>
     ensures { IfOk result (λ answer. answer ≡ model.room_for policy.now there.now (model.of_idents sent.now source.now)) }
 {
-    if is_mirror(policy.kind) {
+    if is_mirror(policy.kind()) {
         return Ok(Ok(()));
     }
     test_labels(alloc, policy, there, sent, source)

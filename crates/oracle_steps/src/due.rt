@@ -20,7 +20,7 @@ fn is_unpruned(x: &PlainRunning) -> bool
 {
     let transfer = x.transfer;
     let policy = x.policy;
-    match policy.kind {
+    match policy.kind() {
         PolicyKind::AsyncMirror => !transfer.pruned && transfer.checkpoint == 0,
         PolicyKind::Vault => false,
     }

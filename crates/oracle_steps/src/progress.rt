@@ -156,7 +156,7 @@ fn ship_reason(alloc: Global, x: &PlainRunning, need: u32) -> Result<Option<Reas
     let policy = x.policy;
     let transfer = x.transfer;
     let free = small(free(alloc, x.destination)?)?;
-    match policy.kind {
+    match policy.kind() {
         PolicyKind::AsyncMirror => Ok(None),
         PolicyKind::Vault => {
             if transfer.landed.is_empty() && free < need {

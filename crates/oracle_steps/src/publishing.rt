@@ -1,11 +1,11 @@
 // The steps that bring a snapshot to a volume, and the one that tidies.
 ghost use Rattle.std.specs.Prelude.{◌≡◌, ◌<◌, ◌+◌, ◌^◌, not, false, ℕ, length, string_bytes, IfOk};
 ghost use Rattle.std.specs.List.{filter, list_any};
-ghost use Rattle.sm_defs.specs.Volume.{idents};
 ghost use Rattle.sm_defs.specs.Needed.{needed};
 ghost use Rattle.sm_defs.specs.Relationship.{is_mirror};
 ghost use Rattle.sm_defs.specs.Classes.{class_of};
-ghost use Rattle.sm_defs.specs.Retention.{retained, label_of};
+ghost use Rattle.sm_defs.specs.Retention.{retained};
+ghost use Rattle.sm_policy.specs.Marks.{needed_marks};
 ghost use Rattle.sm_defs.specs.Operations.{with_snapshot};
 ghost use Rattle.sm_model.specs.Steps.{prepared_snapshot, is_elsewhere, family_published, arrived, list_published, published};
 ghost use Rattle.sm_model.specs.Due.{prepare_reason, prepare_effect, publish_effect, is_tidied, tidy_due, tidy_effect};
@@ -22,7 +22,8 @@ use oracle_lists::{PlainSnapshot, copy_image, copy_snapshots, has_copy, retained
 use oracle_world::{PlainFault, PlainNumber, PlainVolume, PlainWorld, is_needed, is_rw};
 use sm_base::limits::MOST_SNAPSHOTS;
 use sm_base::{Ident, NameFault, NoMemory, PolicyKind, Reason, SnapName, VolNo};
-use sm_model::{Reply, WorldPolicy, WorldRule, copy_label};
+use sm_model::{Reply, copy_label};
+use sm_policy::Policy;
 use std::alloc::Global;
 
 fn made_text(alloc: Global, relation: u32, transfer: u64) -> Result<String, NoMemory>
@@ -161,7 +162,7 @@ fn family_published(world: &PlainWorld, x: &PlainRunning, ident: Ident) -> Resul
     let transfer = x.transfer;
     let source = x.source;
     let destination = x.destination;
-    match policy.kind {
+    match policy.kind() {
         PolicyKind::AsyncMirror => Ok(source.family),
         PolicyKind::Vault => {
             let own = relation.destination.0;
@@ -188,55 +189,37 @@ fn arrived(alloc: Global, x: &PlainRunning, leg: &PlainSnapshot) -> Result<Plain
     })
 }
 
-/// The identities of some snapshots that somebody needs on a volume.
-fn needed_among(
+/// Which of some snapshots somebody needs on a volume.
+fn needed_marks(
     alloc: Global,
     world: &PlainWorld,
     volume: u32,
     snapshots: &[PlainSnapshot],
-) -> Result<Vec<Ident>, NoMemory>
-    ensures { IfOk result (λ all. all.items ≡ filter (needed world.now volume) (idents snapshots.now)) }
+) -> Result<Vec<bool>, NoMemory>
+    ensures { IfOk result (λ marks. marks.items ≡ needed_marks (needed world.now volume) snapshots.now) }
 {
-    match snapshots {
-        [] => Ok(Vec::new(alloc)),
-        [snapshot, newer @ ..] => {
-            let mut all = needed_among(alloc, world, volume, newer)?;
-            if is_needed(world, volume, snapshot.ident) {
-                all.insert(0, snapshot.ident)?;
-            }
-            Ok(all)
-        }
-    }
-}
-
-/// What a vault's rules keep of a volume's list.
-#[tactic(auto, using(crate::proofs::NeededLemmas::retained_by_needed))]
-fn kept_by_labels(
-    alloc: Global,
-    world: &PlainWorld,
-    volume: u32,
-    rules: &[WorldRule],
-    snapshots: &[PlainSnapshot],
-) -> Result<Vec<PlainSnapshot>, NoMemory>
-    ensures { IfOk result (λ all. all.items ≡ retained rules.now label_of (needed world.now volume) snapshots.now) }
-{
-    let needed = needed_among(alloc, world, volume, snapshots)?;
-    retained(alloc, rules, &needed, snapshots)
+    Ok(
+        snapshots
+            .iter()
+            .map(|s| is_needed(world, volume, s.ident))
+            .collect(alloc)?,
+    )
 }
 
 /// What a vault keeps of a volume's list.
-#[tactic(auto, using(sm_defs::proofs::Classes::vault_keeps))]
 fn kept(
     alloc: Global,
     world: &PlainWorld,
     volume: u32,
-    policy: &WorldPolicy,
+    policy: &Policy,
     snapshots: &[PlainSnapshot],
 ) -> Result<Vec<PlainSnapshot>, NoMemory>
     requires { is_mirror policy.now.kind ≡ false }
     ensures { IfOk result (λ all. all.items ≡ retained policy.now.rules (class_of policy.now) (needed world.now volume) snapshots.now) }
 {
-    kept_by_labels(alloc, world, volume, &policy.rules, snapshots)
+    let needed = needed_marks(alloc, world, volume, snapshots)?;
+    let kept = retained(alloc, policy, &needed, snapshots)?;
+    Ok(kept)
 }
 
 fn list_published(
@@ -252,7 +235,7 @@ fn list_published(
     let destination = x.destination;
     let mut all = copy_snapshots(alloc, &destination.snapshots)?;
     all.push(leg)?;
-    match policy.kind {
+    match policy.kind() {
         PolicyKind::AsyncMirror => Ok(all),
         PolicyKind::Vault => {
             let volume = relation.destination.0;

@@ -23,7 +23,8 @@ use oracle_world::{
 };
 use sm_base::limits::FIRST_MADE_FAMILY;
 use sm_base::{Ident, Kind, NoMemory, PolicyKind, Reason};
-use sm_model::{Reply, WorldPolicy, WorldTransfer};
+use sm_model::{Reply, WorldTransfer};
+use sm_policy::Policy;
 use std::alloc::Global;
 
 /// Why the first of some snapshots that somebody needs on a volume may not go.
@@ -44,13 +45,13 @@ fn held(world: &PlainWorld, volume: u32, snapshots: &[PlainSnapshot]) -> Option<
 
 fn as_reverted(
     alloc: Global,
-    policy: &WorldPolicy,
+    policy: &Policy,
     ident: Ident,
     snapshots: &[PlainSnapshot],
 ) -> Result<Vec<PlainSnapshot>, NoMemory>
     ensures { IfOk result (λ all. all.items ≡ as_reverted policy.now ident snapshots.now) }
 {
-    match policy.kind {
+    match policy.kind() {
         PolicyKind::AsyncMirror => up_to(alloc, snapshots, ident),
         PolicyKind::Vault => copy_snapshots(alloc, snapshots),
     }
@@ -74,7 +75,7 @@ fn family_reverted(x: &PlainRunning) -> Result<u64, PlainFault>
     let policy = x.policy;
     let transfer = x.transfer;
     let destination = x.destination;
-    match policy.kind {
+    match policy.kind() {
         PolicyKind::AsyncMirror => Ok(destination.family),
         PolicyKind::Vault => family_of_transfer(transfer.number),
     }
@@ -105,7 +106,7 @@ fn revert_reason(world: &PlainWorld, x: &PlainRunning, base: Ident) -> Option<Re
     let policy = x.policy;
     let relation = x.relation;
     let destination = x.destination;
-    match policy.kind {
+    match policy.kind() {
         PolicyKind::AsyncMirror => held(
             world,
             relation.destination.0,
@@ -198,7 +199,7 @@ pub(crate) fn has_other_family(x: &PlainRunning) -> bool
     let policy = x.policy;
     let source = x.source;
     let destination = x.destination;
-    match policy.kind {
+    match policy.kind() {
         PolicyKind::AsyncMirror => {
             !destination.snapshots.is_empty() && source.family != destination.family
         }

@@ -74,7 +74,7 @@ fn length_of_cost(alloc: Global, x: &PlainRunning, leg: &PlainSnapshot) -> Resul
 {
     let policy = x.policy;
     let destination = x.destination;
-    match policy.kind {
+    match policy.kind() {
         PolicyKind::AsyncMirror => mirror_cost(alloc, &leg.image, &destination.snapshots),
         PolicyKind::Vault => {
             let bases = bases(alloc, x)?;
@@ -99,7 +99,7 @@ pub fn landing(
     ensures { IfOk result (λ image. image.items ≡ landing (running_of x.now) leg.now) }
 {
     let policy = x.policy;
-    match policy.kind {
+    match policy.kind() {
         PolicyKind::AsyncMirror => copy_image(alloc, &leg.image),
         PolicyKind::Vault => {
             let bases = bases(alloc, x)?;

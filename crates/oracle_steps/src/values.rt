@@ -1,12 +1,13 @@
 use oracle_world::PlainVolume;
-use sm_model::{WorldPolicy, WorldRelation, WorldTransfer};
+use sm_model::{WorldRelation, WorldTransfer};
+use sm_policy::Policy;
 
 /// A relationship with its transfer, its policy and its two volumes.
 #[derive(Clone, Copy)]
 pub struct PlainRunning<'a> {
     pub relation: &'a WorldRelation,
     pub transfer: &'a WorldTransfer,
-    pub policy: &'a WorldPolicy,
+    pub policy: &'a Policy,
     pub source: &'a PlainVolume,
     pub destination: &'a PlainVolume,
 }

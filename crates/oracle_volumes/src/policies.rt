@@ -1,28 +1,28 @@
 // What events on policies and the clock are answered.
-ghost use Rattle.std.specs.Prelude.{◌≡◌, ◌<◌, ◌==◌, length, IfOk, OnErr, OnOk, Some, is_some};
+ghost use Rattle.std.specs.Prelude.{◌≡◌, ◌<◌, length, IfOk, OnErr, OnOk, Some};
 ghost use Rattle.std.specs.List.{list_any};
 ghost use Rattle.std.specs.Str.{bytes_eq};
 ghost use Rattle.sm_base.specs.declared.refusal.Refusal.TheVariants as refusals;
 ghost use Rattle.sm_model.specs.declared.reply.Reply.TheVariants as replies;
-ghost use Rattle.sm_defs.specs.Relationship.{rule_for};
 ghost use Rattle.sm_defs.specs.World.{policy_at, no_policy};
 ghost use Rattle.sm_model.specs.OfPolicies as model;
 ghost use Rattle.oracle_world.specs.Finding.{IsFound};
 ghost use Rattle.oracle_volumes.specs.Answering.{Answers};
-ghost use Rattle.sm_defs.specs.Rules.{first_rules, is_mirror_label, is_wrong_rule, is_bad_keep, with_rule};
+ghost use Rattle.sm_defs.specs.Rules.{with_rule};
+ghost use Rattle.sm_policy.specs.Added.{rule_refusal, Refuses};
+ghost use Rattle.oracle_volumes.specs.Ruling.{IsRuled};
 
-use oracle_lists::{has_rule_for, same_text};
-use oracle_world::{PlainFault, PlainNumber, PlainWorld, policy_named};
-use sm_base::limits::{MOST_POLICIES, MOST_RULES};
-use sm_base::{Label, NameFault, NoMemory, Path1, PolicyKind, Refusal, What};
-use sm_model::{Reply, WorldPolicy, WorldRule};
-use sm_policy::{is_bad_keep, is_wrong_rule};
+use oracle_world::{PlainFault, PlainWorld, policy_named};
+use sm_base::limits::MOST_POLICIES;
+use sm_base::{Label, NoMemory, Path1, PolicyKind, Refusal, What};
+use sm_model::Reply;
+use sm_policy::{Policy, RuleFault};
 use std::alloc::Global;
 
-fn any_named(policies: &[WorldPolicy], name: &[u8]) -> bool
+fn any_named(policies: &[Policy], name: &[u8]) -> bool
     ensures { result ≡ list_any (λ p. bytes_eq p.name name.now) policies.now }
 {
-    policies.iter().any(|p| p.name.text() == name)
+    policies.iter().any(|p| p.name().text() == name)
 }
 
 fn is_name_taken(world: &PlainWorld, name: &Path1) -> bool
@@ -37,36 +37,7 @@ fn count_policies(world: &PlainWorld) -> usize
     world.policies.len()
 }
 
-fn label(alloc: Global, text: &[u8]) -> Result<Label, PlainFault>
-    ensures { IfOk result (λ label. label ≡ text.now) }
-{
-    match Label::read(alloc, text) {
-        Ok(label) => Ok(label),
-        Err(NameFault::NoMemory) => Err(PlainFault::NoMemory),
-        Err(NameFault::BadName) => Err(PlainFault::TooGreat {
-            number: PlainNumber::Name,
-        }),
-    }
-}
-
-fn first_rules(alloc: Global, kind: PolicyKind) -> Result<Vec<WorldRule>, PlainFault>
-    ensures { IfOk result (λ rules. rules.items ≡ first_rules kind) }
-{
-    let mut rules = Vec::new(alloc);
-    match kind {
-        PolicyKind::AsyncMirror => {
-            rules.push(WorldRule {
-                label: label(alloc, b"sm_created")?,
-                keep: 1,
-                preserve: false,
-            })?;
-            Ok(rules)
-        }
-        PolicyKind::Vault => Ok(rules),
-    }
-}
-
-fn add_policy(world: &mut PlainWorld, policy: WorldPolicy) -> Result<(), NoMemory>
+fn add_policy(world: &mut PlainWorld, policy: Policy) -> Result<(), NoMemory>
     ensures ok { OnOk result (world.new ≡ model.with_new_policy world.old policy) }
     ensures err { OnErr result (world.new ≡ world.old) }
 {
@@ -92,11 +63,7 @@ pub fn create_policy(
             what: What::Policies,
         }));
     }
-    let policy = WorldPolicy {
-        name: name.copy(alloc)?,
-        kind,
-        rules: first_rules(alloc, kind)?,
-    };
+    let policy = Policy::new(alloc, name.copy(alloc)?, kind)?;
     add_policy(world, policy)?;
     Ok(Reply::Done)
 }
@@ -118,55 +85,41 @@ pub fn refuse_policy(alloc: Global, name: &Path1) -> Result<Reply, PlainFault>
 }
 
 /// The policy at a place.
-pub fn policy(world: &PlainWorld, at: usize) -> &WorldPolicy
+pub fn policy(world: &PlainWorld, at: usize) -> &Policy
     requires { at < length world.now.policies }
     ensures { result.now ≡ policy_at world.now at }
 {
     &world.policies[at]
 }
 
-fn is_wrong(world: &PlainWorld, at: usize, label: &Label, preserve: bool) -> bool
-    requires { at < length world.now.policies }
-    ensures { result ≡ is_wrong_rule (policy_at world.now at).kind label.now preserve }
-{
-    is_wrong_rule(policy(world, at).kind, label.text(), preserve)
-}
-
-fn is_bad(world: &PlainWorld, at: usize, keep: u32) -> bool
-    requires { at < length world.now.policies }
-    ensures { result ≡ is_bad_keep (policy_at world.now at).kind keep }
-{
-    is_bad_keep(policy(world, at).kind, keep)
-}
-
-fn has_rule(world: &PlainWorld, at: usize, label: &Label) -> bool
-    requires { at < length world.now.policies }
-    ensures { result ≡ is_some (rule_for (policy_at world.now at).rules (Some label.now)) }
-{
-    has_rule_for(&policy(world, at).rules, label.text())
-}
-
-fn count_rules(world: &PlainWorld, at: usize) -> usize
-    requires { at < length world.now.policies }
-    ensures { result ≡ length (policy_at world.now at).rules }
-{
-    policy(world, at).rules.len()
-}
-
-fn push_rule(policy: &mut WorldPolicy, rule: WorldRule) -> Result<(), NoMemory>
-    ensures ok { OnOk result (policy.new ≡ with_rule policy.old rule) }
-    ensures err { OnErr result (policy.new ≡ policy.old) }
-{
-    policy.rules.push(rule)?;
-    Ok(())
-}
-
-fn push_rule_at(world: &mut PlainWorld, at: usize, rule: WorldRule) -> Result<(), NoMemory>
+fn rule_at(
+    world: &mut PlainWorld,
+    at: usize,
+    label: Label,
+    keep: u32,
+    preserve: bool,
+) -> Result<(), RuleFault>
     requires { at < length world.old.policies }
-    ensures ok { OnOk result (world.new ≡ model.with_policy world.old at (with_rule (policy_at world.old at) rule)) }
+    ensures refused { Refuses (rule_refusal (policy_at world.old at) label keep preserve) result }
+    ensures ok { OnOk result (world.new ≡ model.with_policy world.old at (with_rule (policy_at world.old at) (record { label = label; keep = keep; preserve = preserve }))) }
     ensures err { OnErr result (world.new ≡ world.old) }
 {
-    push_rule(&mut world.policies[at], rule)
+    world.policies[at].add_rule(label, keep, preserve)
+}
+
+fn rule_named(
+    world: &mut PlainWorld,
+    name: &Path1,
+    at: usize,
+    label: Label,
+    keep: u32,
+    preserve: bool,
+) -> Result<(), RuleFault>
+    requires { IsFound (λ p. bytes_eq p.name name.now) world.old.policies no_policy (Some at) }
+    ensures told { IsRuled (model.add_rule world.old name.now label keep preserve) result world.new }
+    ensures err { OnErr result (world.new ≡ world.old) }
+{
+    rule_at(world, at, label, keep, preserve)
 }
 
 /// Gives a policy a rule.
@@ -184,25 +137,15 @@ pub fn add_rule(
     let Some(at) = place_of_policy(world, name) else {
         return refuse_policy(alloc, name);
     };
-    if is_wrong(world, at, label, preserve) {
-        return Ok(Reply::Refused(Refusal::WrongRule));
+    let label = label.copy(alloc)?;
+    match rule_named(world, name, at, label, keep, preserve) {
+        Ok(()) => Ok(Reply::Done),
+        Err(RuleFault::WrongRule) => Ok(Reply::Refused(Refusal::WrongRule)),
+        Err(RuleFault::BadKeep) => Ok(Reply::Refused(Refusal::BadKeep)),
+        Err(RuleFault::RuleTaken) => Ok(Reply::Refused(Refusal::RuleTaken)),
+        Err(RuleFault::RulesFull) => Ok(Reply::Refused(Refusal::RulesFull)),
+        Err(RuleFault::NoMemory) => Err(PlainFault::NoMemory),
     }
-    if is_bad(world, at, keep) {
-        return Ok(Reply::Refused(Refusal::BadKeep));
-    }
-    if has_rule(world, at, label) {
-        return Ok(Reply::Refused(Refusal::RuleTaken));
-    }
-    if count_rules(world, at) == MOST_RULES {
-        return Ok(Reply::Refused(Refusal::RulesFull));
-    }
-    let rule = WorldRule {
-        label: label.copy(alloc)?,
-        keep,
-        preserve,
-    };
-    push_rule_at(world, at, rule)?;
-    Ok(Reply::Done)
 }
 
 /// Sets the clock, which does not go back.

@@ -1,5 +1,5 @@
 -- What a search finds, and what stands at a place.
-use Rattle.std.proofs.Common.{◌≡◌, ℕ, zero, suc, ◌+◌, ◌<◌, ◌≤◌, Bool, List, [], ◌∷◌, length, get_or, position, refl, sym, arith, Option, Some, None}
+use Rattle.std.proofs.Common.{◌≡◌, ℕ, zero, suc, ◌<◌, ◌≤◌, Bool, List, [], ◌∷◌, length, get_or, position, refl, sym, arith, Option, Some, None}
 use Rattle.sm_defs.proofs.Searches.{found_by_position, none_by_position}
 use Rattle.oracle_world.specs.Finding.{IsFound}
 

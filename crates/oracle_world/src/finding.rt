@@ -9,7 +9,8 @@ ghost use Rattle.oracle_world.specs.Finding.{IsFound};
 use crate::values::{PlainVolume, PlainWorld};
 use oracle_lists::PlainSnapshot;
 use sm_base::{Kind, PolicyKind};
-use sm_model::{WorldPolicy, WorldRelation};
+use sm_model::WorldRelation;
+use sm_policy::Policy;
 
 fn place_of_volume(volumes: &[PlainVolume], path: &[u8]) -> Option<usize>
     ensures { result ≡ position (λ v. bytes_eq v.path path.now) volumes.now }
@@ -24,10 +25,10 @@ pub fn volume_named(world: &PlainWorld, path: &[u8]) -> Option<usize>
     place_of_volume(&world.volumes, path)
 }
 
-fn place_of_policy(policies: &[WorldPolicy], name: &[u8]) -> Option<usize>
+fn place_of_policy(policies: &[Policy], name: &[u8]) -> Option<usize>
     ensures { result ≡ position (λ p. bytes_eq p.name name.now) policies.now }
 {
-    policies.iter().position(|p| p.name.text() == name)
+    policies.iter().position(|p| p.name().text() == name)
 }
 
 /// The place of the first policy of the name.
@@ -93,7 +94,7 @@ pub fn policy_kind_at(world: &PlainWorld, at: usize) -> PolicyKind
     ensures { result ≡ (policy_at world.now at).kind }
 {
     if at < world.policies.len() {
-        world.policies[at].kind
+        world.policies[at].kind()
     } else {
         PolicyKind::AsyncMirror
     }

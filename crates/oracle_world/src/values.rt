@@ -3,7 +3,8 @@ ghost use Rattle.std.specs.Prelude.{◌≡◌, ◌≤◌, ◌^◌, IfOk, OnErr};
 
 use oracle_lists::{PlainBlock, PlainSnapshot};
 use sm_base::{DiskNo, Kind, NoMemory, Path, RelNo};
-use sm_model::{WorldPolicy, WorldRelation};
+use sm_model::WorldRelation;
+use sm_policy::Policy;
 use std::alloc::{AllocError, AllocFailed};
 use std::marker::Model;
 
@@ -40,7 +41,7 @@ pub struct PlainWorld {
     pub next_relation: u32,
     pub next_transfer: u64,
     pub volumes: Vec<PlainVolume>,
-    pub policies: Vec<WorldPolicy>,
+    pub policies: Vec<Policy>,
     /// In the order of their numbers.
     pub relations: Vec<WorldRelation>,
     pub disks: Vec<u64>,

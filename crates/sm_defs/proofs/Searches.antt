@@ -1,10 +1,13 @@
 -- What a search for the first that passes finds.
-use Rattle.std.proofs.Common.{◌≡◌, ◌⊎◌, ◌<◌, ◌≤◌, ℕ, suc, ◌+◌, ◌||◌, nat_lt, not, Bool, true, false, cond, List, [], ◌∷◌, length, position, get_or, Option, Some, None, refl, ap, sym, subst, ◌∙◌, inl, inr, true≢false, arith}
+use Rattle.std.proofs.Common.{◌≡◌, ◌⊎◌, ◌<◌, ◌≤◌, ℕ, suc, ◌+◌, ◌||◌, nat_lt, not, Bool, true, false, cond, List, [], ◌∷◌, ◌++◌, length, reverse, position, get_or, Option, Some, None, refl, ap, sym, subst, ◌∙◌, inl, inr, true≢false, arith}
 use Rattle.std.proofs.lemmas.Bool.Decides.{nat_tests}
 use Rattle.std.proofs.lemmas.Option.{same_Some, slice_get_within, get_or_from_slice_get}
 use Rattle.std.specs.Prelude.{slice_get, slice_index_or}
+use Rattle.std.proofs.lemmas.List.{reverse-append}
+use Rattle.std.proofs.lemmas.List.Folds.{find-append}
 use Rattle.std.specs.List.{list_any, find, prefix_len}
-use Rattle.sm_defs.specs.Words.{Among, Found, found, next_place}
+use Rattle.std.specs.Option.{is_some, option_or}
+use Rattle.sm_defs.specs.Words.{Among, Found, found, next_place, last_that, or_earlier}
 use Rattle.sm_defs.proofs.Members.{get_among}
 
 get_go : {X : Type 0} (x : X) (xs : List X) (b : Bool) (o : Option (Found X)) (f : Found X) → cond b (Some (record { at = 0; item = x })) (next_place o) ≡ Some f →
@@ -71,6 +74,29 @@ find_any {X} p xs e = go (find p xs) refl
     go None is = absurd (true≢false (sym e ∙ find_none p xs is))
     go (Some x) is = (x, is)
 
+-- a list with a member that passes has a first one
+pub any_found : {X : Type 0} (p : X → Bool) (xs : List X) → list_any p xs ≡ is_some (find p xs)
+any_found p [] = refl
+any_found p (x ∷ xs) = go (p x) (any_found p xs)
+  where
+    go : (b : Bool) → list_any p xs ≡ is_some (find p xs) → (b || list_any p xs) ≡ is_some (cond b (Some x) (find p xs))
+    go true e = refl
+    go false e = e
+
+-- ---- from behind
+
+found_or : {X : Type 0} (b : Bool) (x : X) (o : Option X) → option_or o (cond b (Some x) None) ≡ or_earlier o b x
+found_or true x None = refl
+found_or false x None = refl
+found_or b x (Some y) = refl
+
+-- the first from behind is the last that passes
+pub newest_is : {X : Type 0} (p : X → Bool) (xs : List X) → find p (reverse xs) ≡ last_that p xs
+newest_is p [] = refl
+newest_is p (x ∷ xs) =
+    let split : reverse (x ∷ xs) ≡ reverse xs ++ x ∷ [] = reverse-append (x ∷ []) xs in
+    rw (split, find-append p (reverse xs) (x ∷ []), newest_is p xs) (found_or (p x) x (last_that p xs))
+
 -- ---- by a position
 
 -- the first that passes, or none
@@ -94,11 +120,11 @@ pub none_found : {X : Type 0} (p : X → Bool) (xs : List X) → length xs ≤ p
 none_found p [] h = refl
 none_found p (x ∷ xs) h = none_by (p x) x (prefix_len (λ y. not (p y)) xs) (length xs) (found p xs) h (none_found p xs)
 
-no_place : (m l : ℕ) (b : Bool) → nat_lt m l ≡ b → cond b (Some m) None ≡ None → l ≤ m
+pub no_place : (m l : ℕ) (b : Bool) → nat_lt m l ≡ b → cond b (Some m) None ≡ None → l ≤ m
 no_place m l true e h = absurd (cc)
 no_place m l false e h = grind (arith, nat_tests)
 
-a_place : (m l k : ℕ) (b : Bool) → nat_lt m l ≡ b → cond b (Some m) None ≡ Some k → (m ≡ k) × (k < l)
+pub a_place : (m l k : ℕ) (b : Bool) → nat_lt m l ≡ b → cond b (Some m) None ≡ Some k → (m ≡ k) × (k < l)
 a_place m l k true e h = let same : m ≡ k = cc in let less : m < l = grind (arith, nat_tests) in (same, omega arith)
 a_place m l k false e h = absurd (cc)
 

@@ -16,6 +16,7 @@ use Rattle.sm_model.specs.declared.reply.Reply.TheVariants as replies
 use Rattle.sm_defs.specs.Image.{Block, hole}
 use Rattle.sm_defs.specs.Words.{last_that, or_earlier}
 use Rattle.sm_defs.specs.Volume as model
+use Rattle.sm_defs.proofs.Searches.{newest_is}
 use Rattle.sm_model.specs.Answers.{and_then, refused_if, some_or}
 use Rattle.sm_model.specs.OfVolumes.{image_named}
 use Rattle.sm_lab.specs.Slots.{block_of, snapshot_of, filled}
@@ -38,18 +39,6 @@ shown_at slots k s b h e f =
     let test : nat_le (length slots) k ≡ false = grind (arith, nat_tests) in
     let same : (get_or (map block_of slots) k hole).bytes ≡ filled s.fill = ap (λ (x : Block). x.bytes) (got_in slots k s h e) in
     rw test (b, refl, f ∙ sym same)
-
--- the newest of a name is the first from behind
-found_or : (b : Bool) (x : Snapshot) (o : Option Snapshot) → option_or o (cond b (Some x) None) ≡ or_earlier o b x
-found_or true x None = refl
-found_or false x None = refl
-found_or b x (Some y) = refl
-
-newest_is : (p : Snapshot → Bool) (ss : List Snapshot) → find p (reverse ss) ≡ last_that p ss
-newest_is p [] = refl
-newest_is p (s ∷ ss) =
-    let split : reverse (s ∷ ss) ≡ reverse ss ++ s ∷ [] = reverse-append (s ∷ []) ss in
-    rw (split, find-append p (reverse ss) (s ∷ []), newest_is p ss) (found_or (p s) s (last_that p ss))
 
 abbrev pub shown_of : Option Snapshot → Option model.Snapshot
 shown_of None = None

@@ -16,7 +16,8 @@ use Rattle.sm_script.specs.Grammar.{IsCommand}
 use Rattle.laws_run.specs.Histories.{IsFaultless, AllFaultless}
 use Rattle.laws_run.proofs.Runs as runs
 use Rattle.laws_cases.proofs.Answers.Deeds.{done_deed}
-use Rattle.laws_run.proofs.Entries.{refused_quiet, all_joined}
+use Rattle.sm_model.proofs.Refused.{refused_quiet}
+use Rattle.laws_run.proofs.Entries.{all_joined}
 use Rattle.laws_run.proofs.Faultless.{done_faultless, refused_faultless, faults_rise}
 use Rattle.sm_lab.specs.Node.{start, Answers}
 use Rattle.sm_lab.specs.Reporting.{IsLook}

@@ -1,2 +1,4 @@
 pub mod Families
 pub mod Found
+pub mod Restarts
+pub mod Refused

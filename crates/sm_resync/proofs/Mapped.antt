@@ -8,6 +8,7 @@ use Rattle.sm_base.specs.declared.numbers.Ident.{Ident}
 use Rattle.sm_defs.specs.Words.{same_ident, has_ident, last_that, or_earlier, after}
 use Rattle.sm_defs.specs.Volume as volumes
 use Rattle.sm_defs.specs.Common.{common}
+use Rattle.sm_defs.proofs.Searches.{newest_is}
 use Rattle.sm_root.specs.declared.root.RootSnapshot.{RootSnapshot}
 use Rattle.sm_root.specs.Condition.{ident_of}
 
@@ -33,23 +34,11 @@ after-mapped f q (x ∷ xs) = go (q (f x)) (after-mapped f q xs)
     go true e = refl
     go false e = e
 
-found-or : {X : Type 0} (b : Bool) (x : X) (o : Option X) → option_or o (cond b (Some x) None) ≡ or_earlier o b x
-found-or true x None = refl
-found-or false x None = refl
-found-or b x (Some y) = refl
-
--- the first from behind is the last that passes
-from-behind : {X : Type 0} (p : X → Bool) (xs : List X) → find p (reverse xs) ≡ last_that p xs
-from-behind p [] = refl
-from-behind p (x ∷ xs) =
-    let split : reverse (x ∷ xs) ≡ reverse xs ++ x ∷ [] = reverse-append (x ∷ []) xs in
-    rw (split, find-append p (reverse xs) (x ∷ []), from-behind p xs) (found-or (p x) x (last_that p xs))
-
 -- the newest of one list that another has
 pub newest-common : (ss ds : List RootSnapshot) (here there : List volumes.Snapshot) → map ident_of ss ≡ volumes.idents here → map ident_of ds ≡ volumes.idents there →
     option_map ident_of (find (λ d. list_any (λ s. same_ident s.ident d.ident) ss) (reverse ds)) ≡ option_map volumes.ident_of (common here there)
 newest-common ss ds here there e f =
-    ap (option_map ident_of) (from-behind (λ (d : RootSnapshot). list_any (λ s. same_ident s.ident d.ident) ss) ds)
+    ap (option_map ident_of) (newest_is (λ (d : RootSnapshot). list_any (λ s. same_ident s.ident d.ident) ss) ds)
     ∙ (last-mapped ident_of (λ d. list_any (λ s. same_ident s.ident d.ident) ss) (has_ident (map ident_of ss)) (λ d. any-mapped ident_of (λ i. same_ident i d.ident) ss) ds
     ∙ (ap (λ is. last_that (has_ident is) (map ident_of ds)) e ∙ (ap (last_that (has_ident (volumes.idents here))) f
     ∙ sym (last-mapped volumes.ident_of (λ d. volumes.has here d.ident) (has_ident (volumes.idents here)) (λ d. any-mapped volumes.ident_of (λ i. same_ident i d.ident) here) there))))

@@ -1,3 +1,5 @@
+ghost use Rattle.std.specs.Prelude.{◌<◌};
+
 use sm_base::{Ident, Kind, Label, NoMemory, Path1, PolicyKind, RelNo, SnapName, VolNo};
 use sm_graph::Graph;
 use sm_history::{ActFault, History};
@@ -6,10 +8,23 @@ use sm_policy::{Policy, RuleFault};
 use sm_resync::{common, revert_list};
 use sm_root::{BlockMap, Root, RootSnapshot, Snapshots};
 use std::alloc::Global;
+use std::process::Abort;
 use std::test::Fail;
 
-fn daily(alloc: Global) -> Result<Option<Label>, Fail> {
-    Ok(Some(Label::read(alloc, b"d")?))
+// No text is no label.
+fn label(alloc: Global, text: &[u8]) -> Result<Option<Label>, Fail> {
+    if text.is_empty() {
+        return Ok(None);
+    }
+    Ok(Some(Label::read(alloc, text)?))
+}
+
+fn labels(alloc: Global, texts: &[&'static [u8]]) -> Result<Vec<Option<Label>>, Fail> {
+    let mut all = Vec::new(alloc);
+    for text in texts {
+        all.push(label(alloc, *text)?)?;
+    }
+    Ok(all)
 }
 
 // A vault that keeps so many of the label d.
@@ -20,13 +35,61 @@ fn vault(alloc: Global, keep: u32, preserve: bool) -> Result<Policy, Fail> {
     Ok(policy)
 }
 
+struct Retention {
+    keep: u32,
+    preserve: bool,
+    needed: [bool; 5],
+    kept: [bool; 5],
+}
+
+/// Of five snapshots labelled d, not at all, e, d and d.
+const RETENTIONS: &[Retention] = &[
+    Retention {
+        keep: 1,
+        preserve: false,
+        needed: [true, false, false, false, false],
+        kept: [true, false, false, false, true],
+    },
+    Retention {
+        keep: 2,
+        preserve: false,
+        needed: [false, false, false, true, false],
+        kept: [false, false, false, true, true],
+    },
+    Retention {
+        keep: 1,
+        preserve: true,
+        needed: [false, false, false, false, false],
+        kept: [true, false, false, true, true],
+    },
+    Retention {
+        keep: 9,
+        preserve: false,
+        needed: [false, true, false, false, false],
+        kept: [true, true, false, true, true],
+    },
+];
+
 #[test]
 fn a_vault_keeps_by_its_rules(rt: HostRuntime) -> Result<(), Fail> {
+    for row in RETENTIONS {
+        retention_row(&rt, row)?;
+    }
+    Ok(())
+}
+
+fn retention_row(rt: &(impl Abort + AllocGlobal), row: &Retention) -> Result<(), Fail> {
     let alloc = rt.alloc();
-    let policy = vault(alloc, 1, false)?;
-    let labels = [daily(alloc)?, None, daily(alloc)?, daily(alloc)?];
-    let kept = policy.fold(alloc, &labels, &[true, false, false, false])?;
-    assert_eq!(rt; kept.as_slice(), [true, false, false, true].as_slice());
+    let policy = vault(alloc, row.keep, row.preserve)?;
+    let labels = [
+        label(alloc, b"d")?,
+        None,
+        label(alloc, b"e")?,
+        label(alloc, b"d")?,
+        label(alloc, b"d")?,
+    ];
+    let kept = policy.fold(alloc, &labels, &row.needed)?;
+    assert_eq!(rt; kept.as_slice(), row.kept.as_slice());
     Ok(())
 }
 
@@ -42,14 +105,61 @@ fn rules_are_added_by_their_refusals(rt: HostRuntime) -> Result<(), Fail> {
     Ok(())
 }
 
+struct Limit {
+    keep: u32,
+    preserve: bool,
+    /// The labels that are there, and those that would come.
+    there: &'static [&'static [u8]],
+    coming: &'static [&'static [u8]],
+    /// Whether the rule is named.
+    reached: bool,
+}
+
+const LIMITS: &[Limit] = &[
+    Limit {
+        keep: 2,
+        preserve: true,
+        there: &[b"d"],
+        coming: &[b"d", b"d"],
+        reached: true,
+    },
+    Limit {
+        keep: 3,
+        preserve: true,
+        there: &[b"d", b"e"],
+        coming: &[b"d", b"e", b"d"],
+        reached: false,
+    },
+    Limit {
+        keep: 2,
+        preserve: false,
+        there: &[b"d"],
+        coming: &[b"d", b"d"],
+        reached: false,
+    },
+    Limit {
+        keep: 1,
+        preserve: true,
+        there: &[b"d", b"d"],
+        coming: &[],
+        reached: true,
+    },
+];
+
 #[test]
-fn a_preserved_label_is_full(rt: HostRuntime) -> Result<(), Fail> {
+fn a_rule_that_preserves_has_a_limit(rt: HostRuntime) -> Result<(), Fail> {
+    for row in LIMITS {
+        limit_row(&rt, row)?;
+    }
+    Ok(())
+}
+
+fn limit_row(rt: &(impl Abort + AllocGlobal), row: &Limit) -> Result<(), Fail> {
     let alloc = rt.alloc();
-    let policy = vault(alloc, 2, true)?;
-    let have = [daily(alloc)?];
-    let more = [daily(alloc)?, daily(alloc)?];
-    assert!(rt; policy.keep_reached(&have, &more).is_some());
-    assert!(rt; policy.keep_reached(&have, &have).is_none());
+    let policy = vault(alloc, row.keep, row.preserve)?;
+    let there = labels(alloc, row.there)?;
+    let coming = labels(alloc, row.coming)?;
+    assert_eq!(rt; policy.keep_reached(&there, &coming).is_some(), row.reached);
     Ok(())
 }
 
@@ -70,6 +180,40 @@ fn a_graph_is_walked(rt: HostRuntime) -> Result<(), Fail> {
     let upstream = graph.upstream(alloc, VolNo(2), false)?;
     assert_eq!(rt; upstream.len(), 2);
     assert!(rt; upstream.contains(&VolNo(0)) && upstream.contains(&VolNo(1)));
+    Ok(())
+}
+
+// From volume 0 on to the next and the next, by so many edges, as many of them side by side.
+fn ladder(alloc: Global, edges: u32, sides: u32) -> Result<Graph, NoMemory>
+    requires { 0 < sides }
+{
+    let mut graph = Graph::new(alloc);
+    for number in 0..edges {
+        let at = number / sides;
+        graph.add(RelNo(number), VolNo(at), VolNo(at + 1), false)?;
+    }
+    Ok(graph)
+}
+
+#[test]
+fn a_long_chain_is_walked(rt: HostRuntime) -> Result<(), Fail> {
+    let alloc = rt.alloc();
+    let graph = ladder(alloc, 31, 1)?;
+    assert!(rt; graph.would_cycle(alloc, VolNo(31), VolNo(0))?);
+    assert!(rt; !graph.would_cycle(alloc, VolNo(0), VolNo(31))?);
+    assert_eq!(rt; graph.upstream(alloc, VolNo(31), false)?.len(), 31);
+    Ok(())
+}
+
+// Two edges side by side at each step: 2^31 walks lead from the first volume to the last.
+#[test]
+fn each_edge_is_visited_once(rt: HostRuntime) -> Result<(), Fail> {
+    let alloc = rt.alloc();
+    let graph = ladder(alloc, 62, 2)?;
+    assert!(rt; graph.would_cycle(alloc, VolNo(31), VolNo(0))?);
+    assert!(rt; !graph.would_cycle(alloc, VolNo(0), VolNo(31))?);
+    assert_eq!(rt; graph.upstream(alloc, VolNo(31), false)?.len(), 31);
+    assert!(rt; graph.upstream(alloc, VolNo(31), true)?.is_empty());
     Ok(())
 }
 

@@ -1,9 +1,9 @@
 use oracle_lists::{
-    PlainBases, PlainBlock, PlainSnapshot, PlainSource, common, keep_reached, legs, mirror_cost,
-    missing_places, missing_tags, pruned, retained, vault_cost, vault_landing,
+    PlainBases, PlainBlock, PlainSnapshot, PlainSource, common, legs, mirror_cost, missing_places,
+    missing_tags, pruned, vault_cost, vault_landing,
 };
 use sm_base::{Ident, Kind, Label, Path1, PolicyKind, SnapName};
-use sm_model::{WorldPolicy, WorldRule};
+use sm_policy::Policy;
 use std::alloc::Global;
 use std::process::Abort;
 use std::test::Fail;
@@ -42,14 +42,6 @@ fn label(alloc: Global, text: &[u8]) -> Result<Option<Label>, Fail> {
         return Ok(None);
     }
     Ok(Some(Label::read(alloc, text)?))
-}
-
-fn labels(alloc: Global, texts: &[&'static [u8]]) -> Result<Vec<Option<Label>>, Fail> {
-    let mut all = Vec::new(alloc);
-    for text in texts {
-        all.push(label(alloc, *text)?)?;
-    }
-    Ok(all)
 }
 
 const SNAPSHOT_NAME: &[u8] = b"s";
@@ -99,26 +91,16 @@ fn numbers_of(alloc: Global, idents: &[Ident]) -> Result<Vec<u64>, Fail> {
     Ok(seqs)
 }
 
-fn rules(alloc: Global, list: &[Rule]) -> Result<Vec<WorldRule>, Fail> {
-    let mut rules = Vec::new(alloc);
-    for (text, keep, preserve) in list {
-        rules.push(WorldRule {
-            label: Label::read(alloc, *text)?,
-            keep: *keep,
-            preserve: *preserve,
-        })?;
-    }
-    Ok(rules)
-}
-
 const POLICY_NAME: &[u8] = b"p";
 
-fn policy(alloc: Global, kind: PolicyKind, list: &[Rule]) -> Result<WorldPolicy, Fail> {
-    Ok(WorldPolicy {
-        name: Path1::read(alloc, POLICY_NAME)?,
-        kind,
-        rules: rules(alloc, list)?,
-    })
+// A policy with these rules beside those that its kind begins with.
+fn policy(alloc: Global, kind: PolicyKind, list: &[Rule]) -> Result<Policy, Fail> {
+    let name = Path1::read(alloc, POLICY_NAME)?;
+    let mut policy = Policy::new(alloc, name, kind)?;
+    for (text, keep, preserve) in list {
+        policy.add_rule(Label::read(alloc, *text)?, *keep, *preserve)?;
+    }
+    Ok(policy)
 }
 
 struct Mirror {
@@ -243,122 +225,6 @@ fn landing_row(rt: &(impl Abort + AllocGlobal), row: &Landing) -> Result<(), Fai
     Ok(())
 }
 
-struct Retention {
-    rules: &'static [Rule],
-    needed: u64,
-    stay: &'static [u64],
-}
-
-const RETENTIONS: &[Retention] = &[
-    Retention {
-        rules: &[(b"d", 1, false)],
-        needed: 2,
-        stay: &[2, 8],
-    },
-    Retention {
-        rules: &[(b"d", 2, false)],
-        needed: 6,
-        stay: &[6, 8],
-    },
-    Retention {
-        rules: &[(b"d", 1, true)],
-        needed: 0,
-        stay: &[2, 6, 8],
-    },
-    Retention {
-        rules: &[(b"e", 9, false)],
-        needed: 4,
-        stay: &[4],
-    },
-    Retention {
-        rules: &[(b"d", 9, false)],
-        needed: 0,
-        stay: &[2, 6, 8],
-    },
-];
-
-/// Four snapshots labelled d, not at all, d and d.
-const KEPT_BY_LABEL: &[Given] = &[
-    (2, b"d", 0, &[]),
-    (4, b"", 0, &[]),
-    (6, b"d", 0, &[]),
-    (8, b"d", 0, &[]),
-];
-
-#[test]
-fn a_vault_keeps_by_rules_and_needs(rt: HostRuntime) -> Result<(), Fail> {
-    for row in RETENTIONS {
-        retention_row(&rt, row)?;
-    }
-    Ok(())
-}
-
-fn retention_row(rt: &(impl Abort + AllocGlobal), row: &Retention) -> Result<(), Fail> {
-    let alloc = rt.alloc();
-    let list = snapshots(alloc, KEPT_BY_LABEL)?;
-    let rules = rules(alloc, row.rules)?;
-    let kept = retained(alloc, &rules, &[ident(row.needed)], &list)?;
-    let seqs = seqs_of(alloc, &kept)?;
-    assert_eq!(rt; seqs.as_slice(), row.stay);
-    Ok(())
-}
-
-struct Limit {
-    rules: &'static [Rule],
-    /// The labels that are there, and those that would come.
-    there: &'static [&'static [u8]],
-    coming: &'static [&'static [u8]],
-    /// Whether the rule is named.
-    reached: bool,
-}
-
-const LIMITS: &[Limit] = &[
-    Limit {
-        rules: &[(b"d", 2, true)],
-        there: &[b"d"],
-        coming: &[b"d", b"d"],
-        reached: true,
-    },
-    Limit {
-        rules: &[(b"d", 3, true)],
-        there: &[b"d", b"e"],
-        coming: &[b"d", b"e", b"d"],
-        reached: false,
-    },
-    Limit {
-        rules: &[(b"d", 2, false)],
-        there: &[b"d"],
-        coming: &[b"d", b"d"],
-        reached: false,
-    },
-    Limit {
-        rules: &[(b"d", 1, true)],
-        there: &[b"d", b"d"],
-        coming: &[],
-        reached: true,
-    },
-];
-
-#[test]
-fn a_rule_that_preserves_has_a_limit(rt: HostRuntime) -> Result<(), Fail> {
-    for row in LIMITS {
-        limit_row(&rt, row)?;
-    }
-    Ok(())
-}
-
-fn limit_row(rt: &(impl Abort + AllocGlobal), row: &Limit) -> Result<(), Fail> {
-    let alloc = rt.alloc();
-    let rules = rules(alloc, row.rules)?;
-    let there = labels(alloc, row.there)?;
-    let coming = labels(alloc, row.coming)?;
-    assert_eq!(rt;
-        keep_reached(&rules, &there, &coming).is_some(),
-        row.reached
-    );
-    Ok(())
-}
-
 struct Pruning {
     rules: &'static [Rule],
     needed: u64,
@@ -367,12 +233,12 @@ struct Pruning {
 
 const PRUNINGS: &[Pruning] = &[
     Pruning {
-        rules: &[(b"sm_created", 1, false)],
+        rules: &[],
         needed: 0,
         dropped: &[2, 3, 7],
     },
     Pruning {
-        rules: &[(b"sm_created", 1, false)],
+        rules: &[],
         needed: 7,
         dropped: &[2, 3],
     },

@@ -1,19 +1,16 @@
 -- Opening again changes nothing.
-use Rattle.std.proofs.Common.{◌≡◌, List, [], ◌∷◌, map, Option, Some, None, refl, ap, ap₂, ◌<◌, ℕ, length}
-use Rattle.sm_defs.specs.Relationship.{Relationship, Transfer}
+use Rattle.std.proofs.Common.{◌≡◌, List, [], ◌∷◌, map, refl, ap, ap₂, ◌<◌, ℕ, length}
+use Rattle.sm_defs.specs.Relationship.{Relationship}
 use Rattle.sm_defs.specs.World.{Up, volume_at}
 use Rattle.sm_defs.specs.Volume.{no_volume}
 use Rattle.sm_defs.specs.Operations as operations
-use Rattle.sm_model.specs.Opened.{opened, rejoined, restarted}
+use Rattle.sm_model.specs.Opened.{opened, rejoined}
+use Rattle.sm_model.proofs.Restarts.{restarted_twice}
 use Rattle.laws_cases.proofs.Needed.Needs.{mapped_at}
 
 mapped_twice : {X : Type 0} (f : X → X) (xs : List X) → ((x : X) → f (f x) ≡ f x) → map f (map f xs) ≡ map f xs
 mapped_twice f [] h = refl
 mapped_twice f (x ∷ xs) h = ap₂ (λ y ys. y ∷ ys) (h x) (mapped_twice f xs h)
-
-pub restarted_twice : (o : Option Transfer) → restarted (restarted o) ≡ restarted o
-restarted_twice None = refl
-restarted_twice (Some t) = refl
 
 rejoined_twice : (r : Relationship) → rejoined (rejoined r) ≡ rejoined r
 rejoined_twice r = ap (λ t. record r { transfer = t }) (restarted_twice r.transfer)

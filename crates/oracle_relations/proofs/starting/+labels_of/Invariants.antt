@@ -1,5 +1,0 @@
-use Rattle.std.proofs.Common.{length}
-use Rattle.oracle_relations.proofs.starting.+labels_of.Given as goal
-
-abbrev pub decreases-labels_of : goal.decreases-labels_of
-decreases-labels_of l = length l.snapshots.now
