@@ -27,7 +27,7 @@ pub equal_both : (f x y : List ℕ) → Equal f x → Equal f y → Equal x y
 equal_both f x y a b = sym a ∙ b
 
 pub alike_self : (s : WorldSnapshot) → Alike s s
-alike_self s = record { name = refl; label = refl; time = refl; maker = refl }
+alike_self s = record { name = refl; label = refl; time = refl; maker = refl; long = refl }
 
 pub alike_both : (f s t : WorldSnapshot) → Alike f s → Alike f t → Alike s t
-alike_both f s t a b = record { name = sym a.name ∙ b.name; label = sym a.label ∙ b.label; time = sym a.time ∙ b.time; maker = sym a.maker ∙ b.maker }
+alike_both f s t a b = record { name = sym a.name ∙ b.name; label = sym a.label ∙ b.label; time = sym a.time ∙ b.time; maker = sym a.maker ∙ b.maker; long = sym a.long ∙ b.long }

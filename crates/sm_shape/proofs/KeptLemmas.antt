@@ -9,6 +9,7 @@ use Rattle.sm_defs.specs.Volume.{Snapshot}
 use Rattle.sm_defs.specs.Relationship.{Relationship, Rule, rule_for, is_mirror}
 use Rattle.sm_defs.specs.World.{Up, volume_at, policy_at}
 use Rattle.sm_defs.proofs.Members.{among_map, from_map}
+use Rattle.sm_defs.proofs.Searches.{any_found}
 use Rattle.sm_defs.proofs.Classes.{vault_has_class}
 use Rattle.sm_model.specs.declared.world.WorldSnapshot.{WorldSnapshot}
 use Rattle.sm_shape.specs.Blank.{blank_snapshot}
@@ -16,20 +17,12 @@ use Rattle.sm_shape.specs.Kept.{LegHasRule, OwnLegsFit, KeepsLegs}
 use Rattle.sm_shape.proofs.ListWords.{all_among, among_all}
 use Rattle.sm_shape.proofs.Idents.{known_among, among_known}
 
-pub some_any : {X : Type 0} (p : X → Bool) (xs : List X) → list_any p xs ≡ is_some (find p xs)
-some_any p [] = refl
-some_any p (x ∷ xs) = go (p x) (some_any p xs)
-  where
-    go : (b : Bool) → list_any p xs ≡ is_some (find p xs) → (b || list_any p xs) ≡ is_some (cond b (Some x) (find p xs))
-    go true e = refl
-    go false e = e
-
 -- a label without a rule
 pub unruled : (rules : List Rule) (label : List ℕ) (b : Bool) → b ≡ list_any (λ r. bytes_eq r.label label) rules → IsTrue (not b) ↔ (rule_for rules (Some label) ≡ None)
 unruled rules label b e = go (rule_for rules (Some label)) refl
   where
     test : (o : Option Rule) → rule_for rules (Some label) ≡ o → b ≡ is_some o
-    test o is = e ∙ (some_any (λ r. bytes_eq r.label label) rules ∙ ap is_some is)
+    test o is = e ∙ (any_found (λ r. bytes_eq r.label label) rules ∙ ap is_some is)
 
     go : (o : Option Rule) → rule_for rules (Some label) ≡ o → IsTrue (not b) ↔ (rule_for rules (Some label) ≡ None)
     go None is = (λ _. is, λ _. not_from_false b (test None is))

@@ -24,3 +24,4 @@ pub mod FormedLaw
 pub mod Prefix
 pub mod GivenLemmas
 pub mod ShapeLaw
+pub mod Blanking

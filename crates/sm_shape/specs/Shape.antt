@@ -1,6 +1,6 @@
 -- What opening asks of the world that records spell, where nothing is asked of bytes and the rules of
 -- relationships were tested before.
-use Rattle.std.specs.Prelude.{◌≡◌}
+use Rattle.std.specs.Prelude.{◌≡◌, length}
 use Rattle.sm_defs.specs.Volume.{Volume, Snapshot}
 use Rattle.sm_defs.specs.World.{Up}
 use Rattle.sm_model.specs.Standing.{Stands}
@@ -16,12 +16,13 @@ use Rattle.sm_model.specs.TransfersStand.{TransfersStand}
 use Rattle.sm_model.specs.declared.world.World.{World}
 use Rattle.sm_shape.specs.Blank.{blank}
 
--- copies of one identity, whatever is in them
+-- copies of one identity, whatever is in their blocks
 pub record IsNamedCopy (s t : Snapshot) : Type 0 where
   pub name : s.name ≡ t.name
   pub label : s.label ≡ t.label
   pub time : s.time ≡ t.time
   pub maker : s.maker ≡ t.maker
+  pub long : length s.image ≡ length t.image
 
 abbrev pub CopiesNamed : Up → Type 0
 CopiesNamed w = (v u : Volume) (s t : Snapshot) → Stands w v s → Stands w u t → s.ident ≡ t.ident → IsNamedCopy s t

@@ -1,8 +1,8 @@
 //! The test that copies of one identity tell the same.
 
-ghost use Rattle.std.specs.Prelude.{◌≡◌, ◌∷◌, [], ◌↔◌, IfOk, IsTrue};
+ghost use Rattle.std.specs.Prelude.{◌≡◌, ◌∷◌, [], ◌↔◌, IfOk, IsTrue, length};
 ghost use Rattle.std.specs.List.{flat_map};
-ghost use Rattle.sm_shape.specs.Blank.{blank};
+ghost use Rattle.sm_shape.specs.Blank.{blank, blank_snapshot};
 ghost use Rattle.sm_shape.specs.Shape.{CopiesNamed};
 ghost use Rattle.sm_shape.specs.Copies.{Alike, TakesNamed, named_copy, one_named, named_of};
 
@@ -21,7 +21,14 @@ fn same_label(left: &Option<Label>, right: &Option<Label>) -> bool
     }
 }
 
-/// Whether two snapshots have the same name, label, time and maker.
+// Whether two snapshots have as many blocks.
+fn are_as_long(left: &WorldSnapshot, right: &WorldSnapshot) -> bool
+    ensures { IsTrue result ↔ (length (blank_snapshot left.now).image ≡ length (blank_snapshot right.now).image) }
+{
+    left.map.len() == right.map.len()
+}
+
+/// Whether two snapshots have the same name, label, time and maker, and as many blocks.
 fn are_alike(left: &WorldSnapshot, right: &WorldSnapshot) -> bool
     ensures { IsTrue result ↔ Alike left.now right.now }
 {
@@ -32,6 +39,9 @@ fn are_alike(left: &WorldSnapshot, right: &WorldSnapshot) -> bool
         return false;
     }
     if left.made != right.made {
+        return false;
+    }
+    if !are_as_long(left, right) {
         return false;
     }
     same_label(&left.label, &right.label)
@@ -85,8 +95,8 @@ fn take_volumes<'a>(
     Ok(true)
 }
 
-/// Whether copies of one identity have the same name, label, time and maker. `NoMemory` where a table of
-/// the identities finds no room.
+/// Whether copies of one identity have the same name, label, time and maker, and as many blocks. `NoMemory`
+/// where a table of the identities finds no room.
 pub fn copies_named(alloc: Global, world: &World) -> Result<bool, NoMemory>
     ensures { IfOk result (λ agree. IsTrue agree ↔ CopiesNamed (blank world.now)) }
 {

@@ -21,7 +21,7 @@ pub fn is_ruled(rules: &[WorldRule], label: &[u8]) -> bool
 }
 
 /// Whether the label has a rule.
-#[tactic(auto, using(crate::proofs::KeptLemmas::some_any))]
+#[tactic(auto, using(sm_defs::proofs::Searches::any_found))]
 fn has_rule(rules: &[WorldRule], label: &Option<Label>) -> bool
     ensures { result ≡ is_some (rule_for rules.now label.now) }
 {

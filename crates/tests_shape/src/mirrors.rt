@@ -204,7 +204,35 @@ const CASES: &[Case] = &[
     },
 ];
 
+/// Two volumes of other families, one longer than the other, that have copies of one identity.
+const LONGER: &[&str] = &[
+    "next 2 2",
+    "volume s:a 1 rw 0 2 4 2 1 2 | 1 2",
+    "snapshot 0 0.3 snapmirror.1.1 - 6 1 1 2",
+    "volume s:b 2 dp 33 3 4 1 1 2 3 | 1 2 3",
+    "snapshot 1 0.3 snapmirror.1.1 - 6 1 1 2 3",
+];
+
+const LONGER_CASES: &[Case] = &[
+    Case {
+        at: 0,
+        line: "next 2 2",
+        breaks: " copies",
+    },
+    // another identity
+    Case {
+        at: 2,
+        line: "snapshot 0 0.1 snapmirror.1.0 - 6 1 1 2",
+        breaks: "",
+    },
+];
+
 #[test]
 fn mirrors(rt: HostRuntime) -> Result<(), Fail> {
     try_cases(&rt, MIRROR, CASES)
+}
+
+#[test]
+fn copies_of_other_lengths(rt: HostRuntime) -> Result<(), Fail> {
+    try_cases(&rt, LONGER, LONGER_CASES)
 }
