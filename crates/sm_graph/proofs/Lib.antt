@@ -1,2 +1,5 @@
-pub mod WalkLemmas
-pub mod Once
+pub mod Growing
+pub mod Leading
+pub mod Searching
+pub mod Numbered
+pub mod Lowest

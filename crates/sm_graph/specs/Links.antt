@@ -2,6 +2,7 @@
 use Rattle.std.specs.Prelude.{◌≡◌, ℕ, ◌≤◌, ◌⊎◌, ◌||◌, not, Bool, List, map, Option, Some, None, MatchOption}
 use Rattle.std.specs.List.{filter}
 use Rattle.sm_base.specs.declared.numbers.RelNo.{RelNo}
+use Rattle.sm_base.specs.declared.numbers.VolNo.{VolNo}
 use Rattle.sm_defs.specs.Words.{Among}
 use Rattle.sm_defs.specs.Edges.{Edge}
 
@@ -21,6 +22,10 @@ is_walked mirrors_only l = not mirrors_only || l.mirror
 
 abbrev pub edges_of : Bool → List Link → List Edge
 edges_of mirrors_only ls = map edge_of (filter (is_walked mirrors_only) ls)
+
+-- by its number
+abbrev pub volume : ℕ → VolNo
+volume n = record { 0 = n }
 
 -- one of them ends at the volume, and none of those has a lower number
 pub record IsLowestTo (ls : List Link) (v number : ℕ) : Type 0 where

@@ -1,21 +1,18 @@
--- Which edges begin a walk.
-use Rattle.std.specs.Prelude.{ℕ, zero, suc, ◌==◌, ◌&&◌, ◌||◌, Bool, false, List, map}
-use Rattle.std.specs.List.{list_any, zip}
-use Rattle.sm_defs.specs.Edges.{Edge, leads}
+-- What is found upstream, breadth first.
+use Rattle.std.specs.Prelude.{ℕ, zero, suc, ◌==◌, List, [], map, filter, Option, None, Some, nat_eq, slice_get}
+use Rattle.indexmap.specs.IndexSet.{insert_all}
+use Rattle.sm_defs.specs.Edges.{Edge}
 
--- a walk of one to n edges that ends at the volume
-abbrev pub begins : List Edge → ℕ → ℕ → Edge → Bool
-begins es zero v e = false
-begins es (suc n) v e = (e.to == v) || leads es n e.to v
+-- where the edges begin that end at the volume
+abbrev pub sources_of : List Edge → ℕ → List ℕ
+sources_of es v = map (λ e. e.from) (filter (λ e. e.to == v) es)
 
--- all edges, each marked where it begins one
-abbrev pub begin_marks : List Edge → ℕ → ℕ → List Bool
-begin_marks es n v = map (begins es n v) es
+-- with the sources of a volume that was found
+abbrev pub with_sources : List Edge → List ℕ → Option ℕ → List ℕ
+with_sources es found None = found
+with_sources es found (Some u) = insert_all nat_eq found (sources_of es u)
 
--- a marked edge begins at the volume
-abbrev pub has_marked : List Edge → List Bool → ℕ → Bool
-has_marked es marks u = list_any (λ p. (p.0.from == u) && p.1) (zip es marks)
-
--- an edge that ends at the volume, or where a marked one begins
-abbrev pub leads_on : List Edge → List Bool → ℕ → Edge → Bool
-leads_on es marks v e = (e.to == v) || has_marked es marks e.to
+-- what is found once so many of the volumes that were found are visited, each in its turn
+abbrev pub found_after : List Edge → ℕ → ℕ → List ℕ
+found_after es v zero = insert_all nat_eq [] (sources_of es v)
+found_after es v (suc n) = with_sources es (found_after es v n) (slice_get (found_after es v n) n)

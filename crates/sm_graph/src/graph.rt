@@ -1,11 +1,11 @@
 // The edges of relationships.
-ghost use Rattle.std.specs.Prelude.{◌≡◌, ◌==◌, ◌||◌, ℕ, [], ◌∷◌, ◌++◌, not, false, IfOk, OnOk, OnErr};
+ghost use Rattle.std.specs.Prelude.{◌≡◌, ◌==◌, ◌||◌, ℕ, [], ◌∷◌, ◌++◌, map, not, false, IfOk, OnOk, OnErr};
 ghost use Rattle.std.specs.List.{list_any, filter};
 ghost use Rattle.sm_defs.specs.Words.{KeysDiffer};
 ghost use Rattle.sm_defs.specs.Edges.{upstream};
-ghost use Rattle.sm_graph.specs.Links.{Link, edges_of, IsIncoming, IsLower};
+ghost use Rattle.sm_graph.specs.Links.{Link, volume, edges_of, IsIncoming, IsLower};
 
-use crate::walking::{Edge, each_once, leads, sources_to};
+use crate::walking::{Edge, all_upstream};
 use sm_base::{NoMemory, RelNo, VolNo};
 use std::alloc::Global;
 use std::marker::Model;
@@ -96,7 +96,7 @@ impl Graph {
     }
 
     /// Whether an edge from a source to a destination would close a cycle: they are one volume, or the
-    /// destination lies upstream of the source.
+    /// destination lies upstream of the source. Each volume and each edge is visited once.
     pub fn would_cycle(
         &self,
         alloc: Global,
@@ -106,12 +106,12 @@ impl Graph {
         ensures { IfOk result (λ closes. closes ≡ ((destination.0 == source.0) || upstream (edges_of false self.now) destination.0 source.0)) }
     {
         let edges = self.edges(alloc, false)?;
-        let leads = leads(alloc, &edges, destination.0, source.0)?;
-        Ok(destination.0 == source.0 || leads)
+        let upstream = all_upstream(alloc, &edges, source.0)?;
+        Ok(destination.0 == source.0 || upstream.contains(&destination.0))
     }
 
     /// The volumes that lie upstream of a volume, each once, in no order: those from which a walk of one
-    /// or more edges leads to it, of all edges or of mirrors alone.
+    /// or more edges leads to it, of all edges or of mirrors alone. Each volume and each edge is visited once.
     pub fn upstream(
         &self,
         alloc: Global,
@@ -122,8 +122,9 @@ impl Graph {
         ensures once { IfOk result (λ volumes. KeysDiffer (λ v. v.0) volumes.items) }
     {
         let edges = self.edges(alloc, mirrors_only)?;
-        let sources = sources_to(alloc, &edges, volume.0)?;
-        each_once(alloc, &sources)
+        let upstream = all_upstream(alloc, &edges, volume.0)?;
+        let volumes = numbered(alloc, upstream.as_slice())?;
+        Ok(volumes)
     }
 
     /// The lowest relationship whose edge ends at a volume. It takes no memory.
@@ -141,6 +142,13 @@ impl Graph {
             links: copy_links(alloc, &self.links)?,
         })
     }
+}
+
+// Volumes by their numbers.
+fn numbered(alloc: Global, numbers: &[u32]) -> Result<Vec<VolNo>, NoMemory>
+    ensures { IfOk result (λ volumes. volumes.items ≡ map volume numbers.now) }
+{
+    Ok(numbers.iter().map(|number| VolNo(*number)).collect(alloc)?)
 }
 
 fn remove_link(links: &mut Vec<Link>, relation: RelNo)
@@ -167,17 +175,13 @@ fn copy_links(alloc: Global, links: &[Link]) -> Result<Vec<Link>, NoMemory>
 fn lowest_to(links: &[Link], volume: VolNo) -> Option<RelNo>
     ensures { IsIncoming links.now volume.0 result }
 {
-    match links {
-        [] => None,
-        [link, others @ ..] => {
-            let later = lowest_to(others, volume);
-            if link.destination.0 == volume.0 {
-                Some(lower(link.relation, later))
-            } else {
-                later
-            }
+    let mut lowest = None;
+    for link in links {
+        if link.destination.0 == volume.0 {
+            lowest = Some(lower(link.relation, lowest));
         }
     }
+    lowest
 }
 
 fn lower(number: RelNo, known: Option<RelNo>) -> RelNo

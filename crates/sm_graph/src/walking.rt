@@ -1,12 +1,15 @@
-// Walks along edges, found by marks: each round marks the edges from where a walk of one edge more leads on.
-ghost use Rattle.std.specs.Prelude.{◌≡◌, ℕ, ◌==◌, ◌||◌, true, false, length, map, filter, IfOk, OnOk};
-ghost use Rattle.sm_defs.specs.Words.{KeysDiffer};
+// Walks along edges, found breadth first from where they end: each volume is visited once, and then each edge
+// that ends there.
+ghost use Rattle.std.specs.Prelude.{◌≡◌, ℕ, [], nat_eq, unwrap_or, option_map, IfOk, OnOk};
+ghost use Rattle.std.specs.HashMap.{get};
+ghost use Rattle.indexmap.specs.IndexSet.{contains, insert_all, IsUnique};
 ghost use Rattle.sm_defs.specs.Edges.{upstream};
-ghost use Rattle.std.specs.List.{list_any, zip};
-ghost use Rattle.sm_graph.specs.Walks.{begin_marks, has_marked, leads_on};
+ghost use Rattle.sm_graph.specs.Walks.{sources_of};
 
-use sm_base::{NoMemory, VolNo};
+use indexmap::IndexSet;
+use sm_base::NoMemory;
 use std::alloc::Global;
+use std::collections::HashMap;
 use std::marker::Model;
 
 /// From a volume to a volume.
@@ -24,117 +27,56 @@ impl Model for Edge {
     ghost view = { λ e. record { from = e.from; to = e.to } };
 }
 
-// Whether a marked edge begins at the volume.
-fn has_marked(edges: &[Edge], marks: &[bool], volume: u32) -> bool
-    ensures { result ≡ has_marked edges.now marks.now volume }
+// For each volume where edges end, those from where they lead there.
+fn sources_by_end(alloc: Global, edges: &[Edge]) -> Result<HashMap<u32, Vec<u32>>, NoMemory>
+    ensures { IfOk result (λ sources. (v : ℕ) → unwrap_or (option_map (λ l. l.items) (get nat_eq sources v)) [] ≡ sources_of edges.now v) }
 {
-    edges
-        .iter()
-        .zip(marks)
-        .any(|(edge, marked)| edge.from == volume && *marked)
-}
-
-fn leads_on(edges: &[Edge], marks: &[bool], to: u32, edge: &Edge) -> bool
-    ensures { result ≡ leads_on edges.now marks.now to edge.now }
-{
-    edge.to == to || has_marked(edges, marks, edge.to)
-}
-
-// The marks of walks that may have one edge more.
-fn next_marks(alloc: Global, edges: &[Edge], marks: &[bool], to: u32) -> Result<Vec<bool>, NoMemory>
-    ensures { IfOk result (λ next. next.items ≡ map (leads_on edges.now marks.now to) edges.now) }
-{
-    Ok(
-        edges
-            .iter()
-            .map(|edge| leads_on(edges, marks, to, edge))
-            .collect(alloc)?,
-    )
-}
-
-fn no_marks(alloc: Global, edges: &[Edge]) -> Result<Vec<bool>, NoMemory>
-    ensures { IfOk result (λ marks. marks.items ≡ map (λ _. false) edges.now) }
-{
-    Ok(edges.iter().map(|_| false).collect(alloc)?)
-}
-
-fn are_same(one: &[bool], other: &[bool]) -> bool
-    ensures { result ≡ true → one.now ≡ other.now }
-{
-    one == other
-}
-
-// Marks each edge that begins a walk to the volume. Once a round marks no further edge, none does.
-fn marks_to(alloc: Global, edges: &[Edge], to: u32) -> Result<Vec<bool>, NoMemory>
-    ensures { IfOk result (λ marks. marks.items ≡ begin_marks edges.now (length edges.now) to) }
-{
-    let mut marks = no_marks(alloc, edges)?;
-    for _round in 0..edges.len() {
-        let next = next_marks(alloc, edges, &marks, to)?;
-        if are_same(&next, &marks) {
-            return Ok(marks);
-        }
-        marks = next;
+    let mut sources = HashMap::new(alloc);
+    for edge in edges {
+        sources
+            .entry(edge.to)?
+            .or_insert(Vec::new(alloc))
+            .push(edge.from)?;
     }
-    Ok(marks)
-}
-
-/// Whether a volume lies upstream of another.
-pub(crate) fn leads(alloc: Global, edges: &[Edge], from: u32, to: u32) -> Result<bool, NoMemory>
-    ensures { IfOk result (λ leads. leads ≡ upstream edges.now from to) }
-{
-    let marks = marks_to(alloc, edges, to)?;
-    Ok(has_marked(edges, &marks, from))
-}
-
-// The volumes where marked edges begin, one for each edge.
-fn marked_sources(alloc: Global, edges: &[Edge], marks: &[bool]) -> Result<Vec<u32>, NoMemory>
-    ensures { IfOk result (λ sources. sources.items ≡ map (λ p. p.0.from) (filter (λ p. p.1) (zip edges.now marks.now))) }
-{
-    Ok(
-        edges
-            .iter()
-            .zip(marks)
-            .filter(|(_, marked)| **marked)
-            .map(|(edge, _)| edge.from)
-            .collect(alloc)?,
-    )
-}
-
-/// The volumes that lie upstream of a volume, for each walk's first edge.
-pub(crate) fn sources_to(alloc: Global, edges: &[Edge], to: u32) -> Result<Vec<u32>, NoMemory>
-    ensures { IfOk result (λ sources. (u : ℕ) → list_any (λ n. n == u) sources.items ≡ upstream edges.now u to) }
-{
-    let marks = marks_to(alloc, edges, to)?;
-    let sources = marked_sources(alloc, edges, &marks)?;
     Ok(sources)
 }
 
-fn is_among(volumes: &[VolNo], number: u32) -> bool
-    ensures { result ≡ list_any (λ v. v.0 == number) volumes.now }
+fn sources_to(sources: &HashMap<u32, Vec<u32>>, to: u32) -> &[u32]
+    ensures { result.now ≡ unwrap_or (option_map (λ l. l.items) (get nat_eq sources.now to)) [] }
 {
-    volumes.iter().any(|volume| volume.0 == number)
+    match sources.get(&to) {
+        None => &[],
+        Some(volumes) => volumes,
+    }
 }
 
-fn add_once(volumes: &mut Vec<VolNo>, number: u32) -> Result<(), NoMemory>
-    ensures exactly { OnOk result ((u : ℕ) → list_any (λ v. v.0 == u) volumes.new.items ≡ (list_any (λ v. v.0 == u) volumes.old.items || (number == u))) }
-    ensures once { OnOk result (KeysDiffer (λ v. v.0) volumes.old.items → KeysDiffer (λ v. v.0) volumes.new.items) }
+fn add_all(found: &mut IndexSet<u32>, volumes: &[u32]) -> Result<(), NoMemory>
+    ensures keys { OnOk result (found.new.keys ≡ insert_all nat_eq found.old.keys volumes.now) }
+    ensures once { IsUnique nat_eq found.old → IsUnique nat_eq found.new }
 {
-    if is_among(volumes, number) {
-        return Ok(());
+    for volume in volumes {
+        found.insert(*volume)?;
     }
-    volumes.push(VolNo(number))?;
     Ok(())
 }
 
-/// Volumes by their numbers, each once.
-pub(crate) fn each_once(alloc: Global, numbers: &[u32]) -> Result<Vec<VolNo>, NoMemory>
-    ensures exactly { IfOk result (λ volumes. (u : ℕ) → list_any (λ v. v.0 == u) volumes.items ≡ list_any (λ n. n == u) numbers.now) }
-    ensures once { IfOk result (λ volumes. KeysDiffer (λ v. v.0) volumes.items) }
+/// The volumes that lie upstream of a volume, in the order in which they are found.
+pub(crate) fn all_upstream(
+    alloc: Global,
+    edges: &[Edge],
+    to: u32,
+) -> Result<IndexSet<u32>, NoMemory>
+    ensures exactly { IfOk result (λ found. (u : ℕ) → contains nat_eq found u ≡ upstream edges.now u to) }
+    ensures once { IfOk result (λ found. IsUnique nat_eq found) }
 {
-    let mut volumes = Vec::new(alloc);
-    for number in numbers {
-        add_once(&mut volumes, *number)?;
+    let sources = sources_by_end(alloc, edges)?;
+    let mut found = IndexSet::new(alloc);
+    add_all(&mut found, sources_to(&sources, to))?;
+    for at in 0..edges.len() {
+        match found.get_index(at).copied() {
+            None => break,
+            Some(volume) => add_all(&mut found, sources_to(&sources, volume))?,
+        }
     }
-    Ok(volumes)
+    Ok(found)
 }
