@@ -50,8 +50,14 @@ module _ {D : Type 0} (state : D → DiskState) (commits : ℕ) (before after : 
     | inr ne ↦ (h.others seat x y e f ne).told
   ]
 
+  stay_counted : AtSeats state olds news (λ seat s e. s.faults ≤ e.faults)
+  stay_counted = λ seat x y e f. elim (cases_eq seat commits) [
+    | inl same ↦ (h.one seat x y e f same).faults
+    | inr ne ↦ (h.others seat x y e f ne).faults
+  ]
+
   pub together : GoesWhole state commits before after olds news
-  together = record { images = whole; as_long = h.as_long; later = goes_later; told = stays_told }
+  together = record { images = whole; as_long = h.as_long; later = goes_later; told = stays_told; counted = stay_counted }
 
 module _ {D W : Type 0} (state : D → DiskState) (shows : W → World) where
   pub all_together : DisksGoTogether state shows

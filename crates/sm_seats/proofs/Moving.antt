@@ -106,4 +106,5 @@ module _ {D W : Type 0} (state : D → DiskState) (shows : W → World) where
     as_long = refl;
     later = λ seat x y e f. subst (λ (z : D). (state x).moment ≤ (state z).moment) (one_value (slice_get disks seat) x y e f) (omega arith);
     told = λ seat x y e f. ap (λ (z : D). (state z).told) (sym (one_value (slice_get disks seat) x y e f));
+    counted = λ seat x y e f. subst (λ (z : D). (state x).faults ≤ (state z).faults) (one_value (slice_get disks seat) x y e f) (omega arith);
   }

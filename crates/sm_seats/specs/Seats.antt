@@ -42,6 +42,8 @@ module _ {D : Type 0} (state : D → DiskState) where
     pub later : AtSeats olds news (λ seat s e. s.moment ≤ e.moment)
     -- a disk tells its content afterwards exactly where it did before
     pub told : AtSeats olds news (λ seat s e. e.told ≡ s.told)
+    -- counts of failures do not fall
+    pub counted : AtSeats olds news (λ seat s e. s.faults ≤ e.faults)
 
   -- What an event owes for that: at the start each image shows the world before; the disks that do not commit go on with
   -- it, and at the end show the world after; the one that commits shows the world before or after.
