@@ -15,6 +15,10 @@ disk_number s = s.disk
 abbrev pub device : {D : Type 0} → Seated D → D
 device s = s.volume.disk
 
+-- the seat, of which the volume has become this one
+abbrev pub moved : {D : Type 0} → Seated D → Mounted D → Seated D
+moved s m = record { disk = s.disk; volume = m }
+
 -- the volume of number i, which is kept
 pub record IsAtSeat {D : Type 0} (state : D → DiskState) (i : ℕ) (s : Seated D) : Type 0 where
   pub kept : IsKept state s.volume

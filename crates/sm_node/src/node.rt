@@ -1,5 +1,8 @@
 // The parts of a node.
 ghost use Rattle.std.specs.Prelude.{◌≡◌, ◌≤◌, [], length, vec_capacity};
+ghost use Rattle.sm_register.specs.Registered.{IsKept};
+ghost use Rattle.sm_catroot.specs.Condition.{IsCatalog};
+ghost use Rattle.sm_catroot.specs.Kept.{ShowsCatalog};
 ghost use Rattle.sm_node.specs.Nodes.{IsNode};
 
 use crate::seat::Seat;
@@ -11,13 +14,13 @@ use std::marker::Model;
 /// The catalogue on disk 0, the volumes by number, and the disks that hold nothing of them.
 #[derive(Drop)]
 pub struct Node<D: Disk + Drop> {
-    register: Register<D, Catalog>,
-    seats: Vec<Seat<D>>,
+    pub(crate) register: Register<D, Catalog>,
+    pub(crate) seats: Vec<Seat<D>>,
     // By number; where a disk is in use, none.
-    spares: Vec<Option<D>>,
-    lengths: Vec<u64>,
+    pub(crate) spares: Vec<Option<D>>,
+    pub(crate) lengths: Vec<u64>,
     // The emptied list of the disks, which takes them again.
-    room: Vec<D>,
+    pub(crate) room: Vec<D>,
 }
 
 impl<D: Disk + Drop> Model for Node<D> {
@@ -56,8 +59,10 @@ impl<D: Disk + Drop> Node<D> {
 
     /// What holds of every node, whenever it is asked.
     pub fn told(&self)
-        ensures { IsNode D.state self.now }
+        ensures node { IsNode D.state self.now }
+        ensures root { IsKept D.state IsCatalog ShowsCatalog self.now.root }
     {
+        self.register.told();
         let _ = &self.seats;
     }
 

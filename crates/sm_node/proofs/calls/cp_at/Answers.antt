@@ -1,0 +1,31 @@
+use Rattle.std.proofs.Common.{refl, sym, ap, ◌∙◌, Some}
+use Rattle.std.proofs.lemmas.Option.{slice_get-get_or}
+use Rattle.sm_model.specs.declared.reply.Reply.TheVariants as replies
+use Rattle.sm_node.specs.Seats.{Seated}
+use Rattle.sm_node.specs.Moves.{event_answer, fault_answer}
+use Rattle.sm_node.proofs.calls.cp_at.Goals as goal
+
+pub returns-in-Ok : goal.returns-in-Ok
+returns-in-Ok g c = record {
+  old = record { disk = c.seat.inside.disk.0; volume = c.seat.inside.volume };
+  new = c.cp-done.new.self;
+  was = slice_get-get_or c.args.seats.now c.args.named.at c.index-seats-named.result c.requires.place ∙ ap (λ (s : Seated _). Some s) (sym c.seat.view_is);
+  is = refl;
+  did = (c.cp-done.result, sym (ap (event_answer replies.Done c.args.named.disk (g.D.Disk.state c.cp-done.new.self.disk).faults) c.in-Ok.is), c.cp-done.ensures.refused, c.cp-done.ensures.commits);
+  kept = c.told.ensures;
+}
+
+pub returns-in-Err : goal.returns-in-Err
+returns-in-Err g c = record {
+  old = record { disk = c.seat.inside.disk.0; volume = c.seat.inside.volume };
+  new = c.cp-done.new.self;
+  was = slice_get-get_or c.args.seats.now c.args.named.at c.index-seats-named.result c.requires.place ∙ ap (λ (s : Seated _). Some s) (sym c.seat.view_is);
+  is = refl;
+  did = (
+    c.cp-done.result,
+    c.answer_of.ensures ∙ ap (λ k. fault_answer c.args.named.disk k c.in-Err.fault) c.faults.ensures ∙ sym (ap (event_answer replies.Done c.args.named.disk (g.D.Disk.state c.cp-done.new.self.disk).faults) c.in-Err.is),
+    c.cp-done.ensures.refused,
+    c.cp-done.ensures.commits,
+  );
+  kept = c.told.ensures;
+}
