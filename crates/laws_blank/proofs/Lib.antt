@@ -17,3 +17,4 @@ pub mod SoundBlanked
 pub mod Fresh
 pub mod Replies
 pub mod StaysSound
+pub mod SoundOfShape

@@ -21,7 +21,8 @@ use Rattle.sm_shape.specs.Blanked.{zeroed, zeroed_snapshot, zeroed_volume, blank
 use Rattle.laws_blank.specs.Blanking.{blanked_reached, blanked_answer}
 use Rattle.laws_blank.proofs.Mapped.{on, found_mapped, last_mapped, any_mapped, filter_mapped}
 use Rattle.laws_blank.proofs.Results.{changed, some_changed, finds, passes, tested, ends}
-use Rattle.laws_blank.proofs.Zeroed.{hole_zeroed, zeroed_used, zeroed_free_tags, with_blanked, holder_blanked}
+use Rattle.sm_shape.proofs.Blanking.{with_blanked}
+use Rattle.laws_blank.proofs.Zeroed.{hole_zeroed, zeroed_used, zeroed_free_tags, holder_blanked}
 
 pub volume_named_blanked : (w : Up) (path : List ℕ) → volume_named (blanked w) path ≡ changed (on zeroed_volume) (volume_named w path)
 volume_named_blanked w path =

@@ -3,7 +3,6 @@ use Rattle.std.proofs.Common.{◌≡◌, ℕ, ◌-◌, ◌==◌, ◌&&◌, ◌||
 use Rattle.std.specs.Prelude.{is_some}
 use Rattle.std.specs.List.{filter, find, list_any}
 use Rattle.std.proofs.Math.ListN.{get_or-map}
-use Rattle.std.proofs.lemmas.List.{map-set}
 use Rattle.std.proofs.lemmas.List.Folds.{flat_map-map}
 use mathlib.Core.Path.{fun_ext}
 use mathlib.Core.List.{map-map}
@@ -13,7 +12,7 @@ use Rattle.sm_defs.specs.Image.{Block, Image, hole, tags, tag_of, distinct, stan
 use Rattle.sm_defs.specs.Volume.{Volume, Snapshot, is_rw, ident_of, image_of, images_of, tags_of, used, free, free_tags, numbers, idents, has, no_volume}
 use Rattle.sm_defs.specs.Relationship.{Relationship, is_mirror, legs_of}
 use Rattle.sm_defs.specs.Retention.{labels, label_of}
-use Rattle.sm_defs.specs.World.{Up, volume_at, policy_at, with_volume}
+use Rattle.sm_defs.specs.World.{Up, volume_at, policy_at}
 use Rattle.sm_defs.specs.Edges.{edge_of, is_edge, is_mirror_edge, edges, mirror_edges, upstream, state_of, mirror_state, is_snapmirrored}
 use Rattle.sm_defs.specs.Needed.{needed_at_source, needed_at_destination, needed_for, needed, holder}
 use Rattle.sm_shape.specs.Blank.{blank_block}
@@ -69,9 +68,6 @@ zeroed_state v = ap (λ (e : Bool). state_of (is_rw v.kind) e) (empty_mapped zer
 
 pub at_blanked : (w : Up) (i : ℕ) → volume_at (blanked w) i ≡ zeroed_volume (volume_at w i)
 at_blanked w i = get_or-map zeroed_volume w.volumes i no_volume
-
-pub with_blanked : (w : Up) (i : ℕ) (v : Volume) → with_volume (blanked w) i (zeroed_volume v) ≡ blanked (with_volume w i v)
-with_blanked w i v = ap (λ (vs : List Volume). let u : Up = record w { volumes = vs } in u) (sym (map-set zeroed_volume w.volumes i v))
 
 pub has_blanked : (w : Up) (i : ℕ) (j : Ident) → has (volume_at (blanked w) i).snapshots j ≡ has (volume_at w i).snapshots j
 has_blanked w i j = ap (λ (v : Volume). has v.snapshots j) (at_blanked w i) ∙ zeroed_has (volume_at w i).snapshots j

@@ -5,11 +5,13 @@ use Rattle.sm_defs.specs.Volume.{Volume, has}
 use Rattle.sm_defs.specs.World.{Up}
 use Rattle.sm_model.specs.Answers.{Reached}
 use Rattle.sm_model.specs.Answer.{answer}
+use Rattle.sm_model.specs.Crossed.{Crossed}
 use Rattle.sm_model.specs.InRange.{IsGiven}
 use Rattle.sm_model.specs.OfVolumes.{client_ident}
 use Rattle.sm_model.specs.Opened.{opened}
 use Rattle.sm_model.specs.Sound.{SoundUp}
 use Rattle.sm_shape.specs.Blanked.{blanked}
+use Rattle.sm_shape.specs.Shape.{ShapeUp}
 use Rattle.laws_blank.specs.Blanking.{ShowsNoBytes, blanked_event, blanked_answer}
 
 -- the same reply or refusal, and the world that is reached, with zeros
@@ -22,6 +24,10 @@ SoundButBytes w = SoundUp (blanked w)
 
 abbrev pub SoundIsSoundBlanked : Type 0
 SoundIsSoundBlanked = (w : Up) → SoundUp w → SoundButBytes w
+
+-- of the shape that opening asks for, where the relationships fit
+abbrev pub ShapedIsSound : Type 0
+ShapedIsSound = (w : Up) → ShapeUp (blanked w) → Crossed (blanked w) → SoundButBytes w
 
 -- through each answer of an event that a script, a worker or the report can ask for, also one that shows bytes
 abbrev pub BlankedStaysSound : Type 0

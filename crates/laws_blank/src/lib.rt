@@ -4,7 +4,7 @@
 //! Each law is what a function without code ensures.
 #![tactic(auto)]
 
-ghost use Rattle.laws_blank.specs.Laws.{AnswersCommute, BlankedStaysSound, SoundIsSoundBlanked, RestartsStaySound, IdentitiesAreNew};
+ghost use Rattle.laws_blank.specs.Laws.{AnswersCommute, BlankedStaysSound, SoundIsSoundBlanked, ShapedIsSound, RestartsStaySound, IdentitiesAreNew};
 
 /// Where each block is read as zeros, an event that shows no bytes has the same reply or refusal, and leads to the
 /// same world but for the bytes.
@@ -15,6 +15,12 @@ pub fn answers_commute()
 /// A sound world is sound where each block is read as zeros.
 pub fn sound_is_sound_blanked()
     ensures { SoundIsSoundBlanked }
+{}
+
+/// A world that has the shape that opening asks for and whose relationships fit, with each block read as zeros, is
+/// sound so.
+pub fn a_shaped_world_is_sound()
+    ensures { ShapedIsSound }
 {}
 
 /// Where a world is sound with each block read as zeros, the world that an answer leads to is so too.

@@ -1,4 +1,7 @@
 -- A sound world has the shape of one that is read.
+use Rattle.std.proofs.Common.{length, sym, ap, ◌∙◌}
+use Rattle.std.proofs.lemmas.List.{length-map}
+use Rattle.sm_defs.specs.Image.{bytes_of}
 use Rattle.sm_defs.specs.World.{Up}
 use Rattle.sm_model.specs.Sound.{SoundUp}
 use Rattle.sm_model.specs.CopiesAgree.{CopiesAgree}
@@ -12,7 +15,13 @@ use Rattle.laws_blank.proofs.SoundBlanked.{sound_blanked}
 copies_named : (w : Up) → CopiesAgree w → CopiesNamed w
 copies_named w agree v u s t there also same =
     let copy = agree v u s t there also same in
-    record { name = copy.name; label = copy.label; time = copy.time; maker = copy.maker }
+    record {
+      name = copy.name;
+      label = copy.label;
+      time = copy.time;
+      maker = copy.maker;
+      long = sym (length-map s.image bytes_of) ∙ ap length copy.contents ∙ length-map t.image bytes_of;
+    }
 
 shape_of : (w : Up) → SoundUp w → ShapeUp w
 shape_of w sound = record {

@@ -13,7 +13,7 @@ use Rattle.sm_catroot.specs.declared.placed.Placed.{Placed}
 use Rattle.sm_catroot.specs.Catalog.{Catalog}
 use Rattle.sm_model.specs.Opened.{restarted, rejoined, opened}
 use Rattle.sm_opening.specs.OnDisk.{Disks, read_relation, read_volume, read_volumes, world_of, IsVolumeOn, AreVolumesOn, IsReadWorld, Spells}
-use Rattle.laws_cases.proofs.Answers.Opening.{restarted_twice}
+use Rattle.sm_model.proofs.Restarts.{restarted_twice}
 use Rattle.laws_disks.specs.Room.{HasRoomFor, HasRoom}
 
 still_read : (rs : List Relation) → map rejoined (map read_relation rs) ≡ map read_relation rs

@@ -46,7 +46,7 @@ volume_bare d p r =
     ap (λ (i : Image). let v : Volume = record (bare_volume p r) { active = i; stable = i; snapshots = map zeroed_snapshot (map (seen_snapshot c) r.snapshots) } in v) (image_bare c r.stable)
     ∙ ap (λ (ss : List Snapshot). let v : Volume = record (bare_volume p r) { snapshots = ss } in v) (snapshots_bare c r.snapshots)
 
-volumes_bare : (d : Disks) (ps : List Placed) (rs : List Root) → map zeroed_volume (read_volumes d ps rs) ≡ bare_volumes ps rs
+pub volumes_bare : (d : Disks) (ps : List Placed) (rs : List Root) → map zeroed_volume (read_volumes d ps rs) ≡ bare_volumes ps rs
 volumes_bare d [] rs = refl
 volumes_bare d (p ∷ ps) [] = refl
 volumes_bare d (p ∷ ps) (r ∷ rs) =

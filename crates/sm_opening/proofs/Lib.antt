@@ -16,3 +16,4 @@ pub mod WholeLooks
 pub mod SeatLemmas
 pub mod OpenLemmas
 pub mod NodeWorld
+pub mod NodeShape

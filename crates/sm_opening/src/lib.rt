@@ -17,7 +17,8 @@ mod worlds;
 
 pub use fault::OpenFault;
 pub use laws::{
-    a_fault_is_named_once, a_world_has_no_fault, a_world_is_spelled_once, an_opened_node_is_spelled,
+    a_fault_is_named_once, a_world_has_no_fault, a_world_is_spelled_once,
+    an_opened_node_has_its_shape, an_opened_node_is_spelled,
 };
 pub use looking::look;
 pub use opening::open;
