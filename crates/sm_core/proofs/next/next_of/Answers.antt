@@ -1,0 +1,17 @@
+use Rattle.std.proofs.Common.{ℕ, List, map, sym, ap, ◌∙◌, subst, Option}
+use Rattle.sm_catroot.specs.Catalog.{Catalog}
+use Rattle.sm_catroot.specs.Condition.{number_of}
+use Rattle.sm_core.specs.Falling.{world_now}
+use Rattle.sm_core.specs.Next.{IsNext, IsNextIn}
+use Rattle.sm_core.specs.declared.down.Down.{Down}
+use Rattle.sm_core.proofs.Least.{numbers_of}
+use Rattle.sm_core.proofs.next.next_of.Goals as goal
+
+pub returns-in-None : goal.returns-in-None
+returns-in-None g c =
+    let n = c.args.node.now in
+    let after = c.args.after in
+    let result = c.first_above.result in
+    let same = c.relations_of.ensures ∙ ap (λ (k : Catalog). k.relations) c.catalog.ensures in
+    let found = subst (λ (ns : List ℕ). IsNext ns after result) (ap (λ rs. map number_of rs) same ∙ sym (numbers_of n.root.held.relations)) c.first_above.ensures in
+    subst (λ (d : Option (Down _)). IsNextIn (world_now d n) after result) (sym c.in-None.is) found

@@ -1,0 +1,9 @@
+pub mod Deeds
+pub mod Kept
+pub mod Falling
+pub mod Faults
+pub mod Doing
+pub mod Restarting
+pub mod Next
+pub mod FaultsRise
+pub mod Opening
