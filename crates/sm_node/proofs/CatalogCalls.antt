@@ -1,6 +1,6 @@
 -- An event that does nothing, or commits the catalogue alone.
-use Rattle.std.proofs.Common.{◌≡◌, ◌≢◌, ◌⊎◌, inl, inr, ⊎_elim, ℕ, zero, suc, length, refl, sym, ◌∙◌, ap, subst, ◌≤◌}
-use Rattle.std.specs.Prelude.{slice_get, Result, Ok, Err}
+use Rattle.std.proofs.Common.{◌≡◌, ◌≢◌, ◌⊎◌, inl, inr, ⊎_elim, ℕ, zero, suc, List, map, length, refl, sym, ◌∙◌, ap, subst, ◌≤◌}
+use Rattle.std.specs.Prelude.{slice_get, Option, Some, Result, Ok, Err}
 use Rattle.sm_base.specs.declared.faults.Failed.{Failed}
 use Rattle.sm_base.specs.declared.numbers.DiskNo.{DiskNo}
 use Rattle.sm_base.specs.declared.refusal.Refusal.{Refusal}
@@ -19,10 +19,13 @@ use Rattle.sm_catroot.specs.Kept.{ShowsCatalog}
 use Rattle.sm_shape.specs.Blanked.{blanked}
 use Rattle.sm_node.specs.declared.fault.NodeFault.{NodeFault}
 use Rattle.sm_node.specs.declared.fault.NodeFault.TheVariants.{NoMemory as OutOfMemory}
-use Rattle.sm_node.specs.Nodes.{Node, world_with, world_of, all_placed, IsNode}
+use Rattle.sm_node.specs.Nodes.{Node, world_with, world_of, all_placed, LieOn, IsNode}
+use Rattle.sm_node.specs.Seats.{disk_number}
+use Rattle.sm_catroot.specs.declared.placed.Placed.{Placed}
+use Rattle.std.proofs.lemmas.Option.{same_Some}
 use Rattle.sm_node.specs.Parts.{devices, part, StandsUp}
 use Rattle.sm_node.specs.Moves.{commit_answer}
-use Rattle.sm_node.specs.Acts.{reached_of, Acts}
+use Rattle.sm_node.specs.Acts.{reached_of, GoesThrough, Acts}
 use Rattle.sm_node.proofs.ButBytesLemmas.{reply_itself}
 use Rattle.sm_node.proofs.Worlds.{catalog_kept}
 use Rattle.sm_node.proofs.SeatLemmas.{parts_now, root_goes_whole}
@@ -39,7 +42,7 @@ module _ {D : Type 0} (state : D → DiskState) (n : Node D) (h : StandsUp state
     without_bytes = (refl, refl);
     failed = λ disk count e. absurd (cc);
     unchanged = λ e. absurd (cc);
-    whole = (0, nothing_done (world_of n));
+    whole = GoesThrough.stays 0 (nothing_done (world_of n));
   }
 
   pub starved : (a : Answer) → Acts state a n (Err OutOfMemory) n
@@ -49,7 +52,7 @@ module _ {D : Type 0} (state : D → DiskState) (n : Node D) (h : StandsUp state
     without_bytes = tt;
     failed = λ disk count e. absurd (cc);
     unchanged = λ e. refl;
-    whole = (0, nothing_done (reached_of (world_of n) a));
+    whole = GoesThrough.stays 0 (nothing_done (reached_of (world_of n) a));
   }
 
   -- the catalogue is committed, with the same volumes
@@ -91,7 +94,7 @@ module _ {D : Type 0} (state : D → DiskState) (n : Node D) (h : StandsUp state
       without_bytes = (reply_itself reply, ap (λ (x : Registered D Catalog). blanked (world_with x.held n.seats n.lengths)) c.ok);
       failed = λ disk count f. absurd (cc);
       unchanged = λ f. absurd (cc);
-      whole = (0, whole (Ok done) c);
+      whole = GoesThrough.stays 0 (whole (Ok done) c);
     }
     by_result (Err fault) c = record {
       up = tt;
@@ -99,7 +102,7 @@ module _ {D : Type 0} (state : D → DiskState) (n : Node D) (h : StandsUp state
       without_bytes = tt;
       failed = λ disk count f. record {
         allowed = tt;
-        failed = record {
+        failed = inl (record {
           seat = 0;
           named = let zero_disk : DiskNo = record { 0 = 0 } in let same : zero_disk ≡ disk = cc in ap (λ (x : DiskNo). x.0) (sym same);
           old = n.root.disk;
@@ -108,12 +111,12 @@ module _ {D : Type 0} (state : D → DiskState) (n : Node D) (h : StandsUp state
           is = refl;
           counted = c.counted;
           counts = let same : (state root.disk).faults ≡ count = cc in sym same;
-        };
+        });
         fallen = fallen_catalog state n h root next (ap (λ (x : Registered D Catalog). x.held) c.fault) (ap (λ (x : Registered D Catalog). x.after) c.fault) reply;
         left_open = left_open_root state n h root next (ap (λ (x : Registered D Catalog). x.held) c.fault) (ap (λ (x : Registered D Catalog). x.after) c.fault) places;
       };
       unchanged = λ f. absurd (cc);
-      whole = (0, whole (Err fault) c);
+      whole = GoesThrough.stays 0 (whole (Err fault) c);
     }
 
     -- what it is answered, where that is the definitions' answer
@@ -129,6 +132,14 @@ module _ {D : Type 0} (state : D → DiskState) (n : Node D) (h : StandsUp state
   held_places root next places (Ok done) c = ap (λ (x : Registered D Catalog). x.held.volumes) c.ok ∙ places
   held_places root next places (Err fault) c = ap (λ (x : Registered D Catalog). x.held.volumes) c.fault
 
+  -- the places of a commit whose outcome is not known are the same
+  after_placed : (root : Registered D Catalog) (next : Catalog) → next.volumes ≡ n.root.held.volumes → (r : Result (Unit {0}) Failed) → commits.Commits state ShowsCatalog n.root next r root
+      → (k : Catalog) → root.after ≡ Some k → LieOn k.volumes (map disk_number n.seats)
+  after_placed root next places (Ok done) c k e = h.node.placed_after k (sym (ap (λ (x : Registered D Catalog). x.after) c.ok) ∙ e)
+  after_placed root next places (Err fault) c k e =
+      let same : next ≡ k = same_Some next k (sym (ap (λ (x : Registered D Catalog). x.after) c.fault) ∙ e) in
+      subst (λ (ps : List Placed). LieOn ps (map disk_number n.seats)) (sym places ∙ ap (λ (j : Catalog). j.volumes) same) h.node.placed
+
   -- and the node is one still
   pub catalog_keeps : (root : Registered D Catalog) (next : Catalog) → next.volumes ≡ n.root.held.volumes → (reply : Reply) (R : Result Reply NodeFault)
       → (r : Result (Unit {0}) Failed) × (R ≡ commit_answer reply (state root.disk).faults r) × commits.Commits state ShowsCatalog n.root next r root
@@ -138,4 +149,11 @@ module _ {D : Type 0} (state : D → DiskState) (n : Node D) (h : StandsUp state
     few = h.node.few;
     seated = h.node.seated;
     laid_out = h.node.laid_out;
+    placed = subst (λ (ps : List Placed). LieOn ps (map disk_number n.seats)) (sym (held_places root next places did.0 did.2)) h.node.placed;
+    placed_after = after_placed root next places did.0 did.2;
+    long = record {
+      root = h.node.long.root ∙ ap Some (sym did.2.any_moment.size);
+      seats = h.node.long.seats;
+      spares = h.node.long.spares;
+    };
   }

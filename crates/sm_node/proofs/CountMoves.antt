@@ -5,9 +5,8 @@ use Rattle.std.proofs.lemmas.Option.{slice_get_within}
 use Rattle.sm_base.specs.declared.numbers.DiskNo.{DiskNo}
 use Rattle.sm_defs.specs.Volume.{Volume}
 use Rattle.sm_disk.specs.Disk.{DiskState}
-use Rattle.sm_catroot.specs.declared.placed.Placed.{Placed}
 use Rattle.sm_node.specs.Seats.{disk_number, device}
-use Rattle.sm_node.specs.Nodes.{Node, placed, numbers, world_of, IsLaidOut}
+use Rattle.sm_node.specs.Nodes.{Node, placed, numbers, LieOn, world_of, IsLaidOut}
 use Rattle.sm_node.specs.Parts.{devices}
 use Rattle.sm_node.specs.Acts.{IsDiskOf, HasFailed}
 use Rattle.sm_node.specs.Counted.{KeepsNumbers, HasCounted, CountsStay, CountRises}
@@ -17,12 +16,8 @@ use Rattle.sm_node.proofs.Worlds.{placed_there}
 use Rattle.sm_node.proofs.Counts.{counted_at, counted_beside}
 
 module _ {D : Type 0} (state : D → DiskState) where
-  -- each volume lies on the disk that the catalogue says
-  abbrev pub LiesAsPlaced : Node D → Type 0
-  LiesAsPlaced n = (i : ℕ) (p : Placed) (disk : ℕ) → slice_get n.root.held.volumes i ≡ Some p → slice_get (map disk_number n.seats) i ≡ Some disk → p.disk.0 ≡ disk
-
   -- the disk that is named is the one at the seat
-  seat_named : (n : Node D) → LiesAsPlaced n → length n.root.held.volumes ≡ length n.seats → (seat : ℕ) (disk : DiskNo) (x : D) → slice_get (devices n) seat ≡ Some x
+  seat_named : (n : Node D) → LieOn n.root.held.volumes (map disk_number n.seats) → length n.root.held.volumes ≡ length n.seats → (seat : ℕ) (disk : DiskNo) (x : D) → slice_get (devices n) seat ≡ Some x
       → ((i : ℕ) (v : Volume) → seat ≡ suc i → slice_get (world_of n).volumes i ≡ Some v → disk.0 ≡ v.disk) → (seat ≡ 0 → disk.0 ≡ 0) → slice_get (numbers n.seats) seat ≡ Some disk.0
   seat_named n places many zero disk x e volume root = ap (λ (k : ℕ). Some k) (sym (root refl))
   seat_named n places many (suc i) disk x e volume root =
@@ -32,7 +27,7 @@ module _ {D : Type 0} (state : D → DiskState) where
       let number = mapped_to disk_number n.seats i s.0 s.1 in
       number ∙ ap (λ (k : ℕ). Some k) (sym (places i p.0 s.0.disk p.1 number) ∙ sym (volume i (placed p.0 s.0.volume) refl there))
 
-  pub event_rises : (old new : Node D) → LiesAsPlaced old → length old.root.held.volumes ≡ length old.seats → IsLaidOut new.seats new.spares new.lengths → KeepsNumbers old new → CountsStay state old new
+  pub event_rises : (old new : Node D) → LieOn old.root.held.volumes (map disk_number old.seats) → length old.root.held.volumes ≡ length old.seats → IsLaidOut new.seats new.spares new.lengths → KeepsNumbers old new → CountsStay state old new
       → (disk : DiskNo) (count : ℕ) → HasFailed state (world_of old) disk count (devices old) (devices new) → CountRises state disk count old new
   event_rises old new places many is keeps stay disk count failed = λ counts has.
       let named = seat_named old places many failed.seat disk failed.old failed.was (by_volume failed.seat failed.named) (by_root failed.seat failed.named) in

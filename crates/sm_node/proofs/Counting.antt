@@ -14,8 +14,7 @@ use Rattle.sm_node.specs.Counted.{KeepsNumbers, HasCounted, CountsStay, CountRis
 use Rattle.sm_seats.proofs.Lists.{some_at, one_value}
 use Rattle.sm_node.proofs.Lists.{get_set_other, get_set_same, mapped_to}
 use Rattle.sm_node.proofs.Trimming.{get_front, get_last, last_within}
-use Rattle.sm_node.proofs.NodeTurning.{turn_long, turn_numbers}
-use Rattle.sm_node.proofs.HalfTurns.{turn_goes}
+use Rattle.sm_node.proofs.SeatTurning.{turn_long, turn_numbers, turn_goes}
 use Rattle.sm_node.proofs.Counts.{counted_at, counted_beside}
 
 module _ {D : Type 0} (state : D → DiskState) where

@@ -36,7 +36,8 @@ use Rattle.sm_node.proofs.CatalogCalls.{refused, starved, catalog_acts, catalog_
 use Rattle.sm_seats.proofs.Lists.{one_value}
 use Rattle.sm_node.proofs.Clocks.{clock_goes}
 use Rattle.sm_node.proofs.Matching.{cp_matches, write_matches, write_saturated}
-use Rattle.sm_node.proofs.VolumeCalls.{commit_acts, write_acts, commits_number, writes_number, node_set}
+use Rattle.sm_node.proofs.VolumeCalls.{commit_acts, write_acts, commits_number, writes_number}
+use Rattle.sm_node.proofs.KeptLemmas.{node_set}
 
 -- nothing is done
 module _ {D : Type 0} (state : D → DiskState) (n : Node D) (h : StandsUp state n) where
@@ -117,7 +118,7 @@ module _ {D : Type 0} (state : D → DiskState) (n now : Node D) (view : n ≡ n
         pub call_keeps : IsNode state (record n { seats = news })
         call_keeps =
             subst (λ (ss : List (Seated D)). IsNode state (record n { seats = ss })) (sym did_here.is)
-            (node_set state n f.at did_here.old did_here.new here.node did_here.was did_here.kept (commits_number state did_here.old.volume did_here.new (next did_here.old.volume.volume) did_here.did.0 did_here.did.3))
+            (node_set state n here.node f.at did_here.old did_here.new did_here.was did_here.kept (commits_number state did_here.old.volume did_here.new (next did_here.old.volume.volume) did_here.did.0 did_here.did.3) did_here.did.3.any_moment.size)
 
       pub cp_acts : MovesOne state f.at (IsCommitCall state replies.Done f.disk cp_refusal settled R) seats news → Acts state (answers.cp (world_of now) path) now R (record n { seats = news })
       cp_acts did = call_acts replies.Done cp_refusal settled did (λ w. answers.cp w path) (λ p m named. cp_matches (world_of n) path f.at p m named)
@@ -150,4 +151,4 @@ module _ {D : Type 0} (state : D → DiskState) (n now : Node D) (view : n ≡ n
         pub write_keeps : IsNode state (record n { seats = news })
         write_keeps =
             subst (λ (ss : List (Seated D)). IsNode state (record n { seats = ss })) (sym wrote_here.is)
-            (node_set state n f.at wrote_here.old wrote_here.new here.node wrote_here.was wrote_here.kept (writes_number state at (replicate 4096 fill) wrote_here.old.volume wrote_here.new wrote_here.did.0 wrote_here.did.3))
+            (node_set state n here.node f.at wrote_here.old wrote_here.new wrote_here.was wrote_here.kept (writes_number state at (replicate 4096 fill) wrote_here.old.volume wrote_here.new wrote_here.did.0 wrote_here.did.3) wrote_here.did.3.any_moment.size)

@@ -36,7 +36,7 @@ module _ {D : Type 0} (state : D → DiskState) (n : Node D) (h : StandsUp state
   pub root_none : n.root.after ≡ None
   root_none = h.root.decided h.up.root
 
-  no_after : (k : Catalog) → n.root.after ≡ Some k → ⊥
+  pub no_after : (k : Catalog) → n.root.after ≡ Some k → ⊥
   no_after k e = let g = sym root_none ∙ e in cc
 
   -- ---- the disk of a volume failed

@@ -24,7 +24,7 @@ use Rattle.sm_node.specs.Seats.{Seated, device}
 use Rattle.sm_node.specs.Nodes.{Node, world_of, IsNode}
 use Rattle.sm_node.specs.Parts.{devices, part, StandsUp}
 use Rattle.sm_node.specs.Pending.{later, ahead, world_ahead, NothingPending, OthersDecided, IsLong}
-use Rattle.sm_node.specs.Acts.{reached_of, Fails}
+use Rattle.sm_node.specs.Acts.{reached_of, DiskHasFailed, IsLeftOpenBy, Fails}
 use Rattle.sm_node.specs.Halved.{IsRecordOf, IsOpen, FoundAt, BySlot, IsHalved}
 use Rattle.sm_seats.proofs.Lists.{some_at, one_value}
 use Rattle.sm_node.proofs.Lists.{mapped_at}
@@ -147,11 +147,18 @@ module _ {D : Type 0} (state : D → DiskState) where
   pub fails_halved : (a : Answer) (disk : DiskNo) (count : ℕ) (old new : Node D) → Fails state a disk count old new → register.IsKept state IsCatalog ShowsCatalog new.root → IsNode state new
       → (d : Deed) → world_of old ≡ d.old → reached_of (world_of old) a ≡ d.new → IsHalved state d Before new
   fails_halved a disk count old new h root is d before after =
-      let lt = slice_get_within (devices new) h.failed.seat h.failed.new h.failed.is in
-      falls new root is h.failed.seat lt h.left_open.decided h.left_open.long d (h.fallen.before ∙ before) (elim h.fallen.after [
+      by_disk h.failed h.left_open
+    where
+      then : (world_ahead new ≡ d.new) ⊎ NothingPending new
+      then = elim h.fallen.after [
         | inl same ↦ inl (same ∙ after)
         | inr none ↦ inr none
-      ])
+      ]
+
+      -- a disk at hand has nothing pending, and none of those at seats
+      by_disk : (failed : DiskHasFailed state (world_of old) disk count old new) → IsLeftOpenBy state (world_of old) disk count old new failed → IsHalved state d Before new
+      by_disk (inl f) open_at = falls new root is f.seat (slice_get_within (devices new) f.seat f.new f.is) open_at.decided open_at.long d (h.fallen.before ∙ before) then
+      by_disk (inr f) left = falls new root is 0 (omega arith) (record { root = λ ne. left.0.0; volumes = λ i m e ne. left.0.1 i m e }) left.1 d (h.fallen.before ∙ before) then
 
   -- a node that is up is one too, with its world twice
   pub up_halved : (n : Node D) → StandsUp state n → (d : Deed) → world_of n ≡ d.old → IsHalved state d Before n

@@ -19,7 +19,7 @@ use Rattle.sm_node.specs.Turning.{InTurn, NodeTurns}
 use Rattle.sm_node.specs.Halved.{IsOpen, FoundAt, IsHalved, ShowsOneOf}
 use Rattle.sm_seats.proofs.Lists.{some_at, one_value}
 use Rattle.sm_node.proofs.Lists.{get_set_other, get_set_same, mapped_at, mapped_to}
-use Rattle.sm_node.proofs.NodeTurning.{turn_long}
+use Rattle.sm_node.proofs.SeatTurning.{turn_long, turn_goes}
 use Rattle.sm_node.proofs.HalfSteps.{other_slot}
 use Rattle.sm_node.proofs.HalfRoot.{root_half}
 use Rattle.sm_node.proofs.HalfVolume.{volume_half}
@@ -70,23 +70,6 @@ module _ {D : Type 0} (state : D → DiskState) where
       (spares_half d t (record n { root = n'.root; seats = n'.seats }) n'.spares
       (turned_half d (record n { root = n'.root }) h.volumes (root_half state d s n is n'.root h.r h.root less)))
 
-  -- one disk of those that are restarted in turn
-  pub turn_goes : {olds news : List (Seated D)} {s t : Side} → InTurn state olds s news t → (i : ℕ) (x : Seated D) → slice_get olds i ≡ Some x → (y : Seated D) × (slice_get news i ≡ Some y) × GoesOn (state (device x)) (state (device y)) (state (device x)).may_leave
-  turn_goes none i x e = (x, e, begun (state (device x)) _)
-  turn_goes (more {mids = mids} before r at old new was turns) i x e =
-      let m = turn_goes before i x e in
-      elim (cases_eq i at) [
-        | inl same ↦
-            let here : slice_get mids at ≡ Some m.0 = subst (λ (j : ℕ). slice_get mids j ≡ Some m.0) same m.1 in
-            let is : old ≡ m.0 = one_value (slice_get mids at) old m.0 was here in
-            let goes : GoesOn (state (device m.0)) (state new.disk) (state (device m.0)).may_leave = subst (λ (z : Seated D). GoesOn (state (device z)) (state new.disk) (state (device z)).may_leave) is turns.goes in (
-              moved old new,
-              subst (λ (j : ℕ). slice_get (slice_set mids at (moved old new)) j ≡ Some (moved old new)) (sym same) (get_set_same mids at (moved old new) (slice_get_within mids at old was)),
-              goes_joined (state (device x)) (state (device m.0)) (state new.disk) _ m.2 (weaker (state (device m.0)) (state new.disk) _ _ goes (λ c may. at_end (state (device x)) (state (device m.0)) _ m.2 (λ b now. now) c may)),
-            )
-        | inr ne ↦ (m.0, get_set_other mids at i (moved old new) ne ∙ m.1, m.2)
-      ]
-
   module _ (n n' : Node D) (s t : Side) (h : NodeTurns state n s n' t) where
     pub devices_as_long : length (devices n') ≡ length (devices n)
     devices_as_long = ap suc (length-map n'.seats device ∙ turn_long state h.volumes ∙ sym (length-map n.seats device))
@@ -98,7 +81,7 @@ module _ {D : Type 0} (state : D → DiskState) where
         subst (λ (z : D). GoesOn (state z) (state y) (state z).may_leave) same_x (subst (λ (z : D). GoesOn (state n.root.disk) (state z) (state n.root.disk).may_leave) same_y h.root.goes)
     seat_goes (suc i) x y e f =
         let m = mapped_at device n.seats i x e in
-        let k = turn_goes h.volumes i m.0 m.1 in
+        let k = turn_goes state h.volumes i m.0 m.1 in
         let same_y : device k.0 ≡ y = one_value (slice_get (map device n'.seats) i) (device k.0) y (mapped_to device n'.seats i k.0 k.1) f in
         subst (λ (z : D). GoesOn (state z) (state y) (state z).may_leave) m.2 (subst (λ (z : D). GoesOn (state (device m.0)) (state z) (state (device m.0)).may_leave) same_y k.2)
 

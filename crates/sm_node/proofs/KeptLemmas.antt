@@ -11,8 +11,8 @@ use Rattle.sm_model.specs.Answers.{volno}
 use Rattle.volume_store.specs.declared.faults.VolumeFault.{VolumeFault}
 use Rattle.sm_volume.specs.Mounted.{Mounted}
 use Rattle.sm_volume.specs.Kept.{IsKept}
-use Rattle.sm_node.specs.Seats.{Seated, moved, disk_number, IsAtSeat}
-use Rattle.sm_node.specs.Nodes.{Node, IsNode, IsLaidOut, numbers}
+use Rattle.sm_node.specs.Seats.{Seated, moved, disk_number, device, IsAtSeat}
+use Rattle.sm_node.specs.Nodes.{Node, IsNode, IsLaidOut, LieOn, numbers}
 use Rattle.sm_node.specs.Moves.{MovesOne}
 use Rattle.sm_node.specs.Reading.{Reads}
 use Rattle.sm_node.proofs.VolumeCalls.{is_fault}
@@ -38,8 +38,11 @@ laid_out seats news spares lengths same is =
     }
 
 module _ {D : Type 0} (state : D → DiskState) (n : Node D) (is : IsNode state n) where
-  pub node_set : (at : ℕ) (s : Seated D) (m : Mounted D) → slice_get n.seats at ≡ Some s → IsKept state m → m.number ≡ s.volume.number → IsNode state (record n { seats = slice_set n.seats at (moved s m) })
-  node_set at s m was kept same = record {
+  same_numbers : (at : ℕ) (s : Seated D) (m : Mounted D) → slice_get n.seats at ≡ Some s → map disk_number (slice_set n.seats at (moved s m)) ≡ map disk_number n.seats
+  same_numbers at s m was = keys_set disk_number n.seats at s (moved s m) was refl
+
+  pub node_set : (at : ℕ) (s : Seated D) (m : Mounted D) → slice_get n.seats at ≡ Some s → IsKept state m → m.number ≡ s.volume.number → (state m.disk).size ≡ (state (device s)).size → IsNode state (record n { seats = slice_set n.seats at (moved s m) })
+  node_set at s m was kept same size = record {
     as_many = subst (λ (l : ℕ). length n.root.held.volumes ≤ l) (sym (length-set n.seats at (moved s m))) is.as_many;
     few = subst (λ (l : ℕ). l ≤ MOST_VOLUMES) (sym (length-set n.seats at (moved s m))) is.few;
     seated = λ i x e. elim (cases_eq i at) [
@@ -49,11 +52,24 @@ module _ {D : Type 0} (state : D → DiskState) (n : Node D) (is : IsNode state 
           subst (λ (y : Seated D). IsAtSeat state i y) is_x (record { kept = kept; numbered = same ∙ (is.seated at s was).numbered ∙ ap volno (sym here) })
       | inr ne ↦ is.seated i x (sym (get_set_other n.seats at i (moved s m) ne) ∙ e)
     ];
-    laid_out = laid_out n.seats (slice_set n.seats at (moved s m)) n.spares n.lengths (keys_set disk_number n.seats at s (moved s m) was refl) is.laid_out;
+    laid_out = laid_out n.seats (slice_set n.seats at (moved s m)) n.spares n.lengths (same_numbers at s m was) is.laid_out;
+    placed = subst (LieOn n.root.held.volumes) (sym (same_numbers at s m was)) is.placed;
+    placed_after = λ k e. subst (LieOn k.volumes) (sym (same_numbers at s m was)) (is.placed_after k e);
+    long = record {
+      root = is.long.root;
+      seats = λ i x e. elim (cases_eq i at) [
+        | inl here ↦
+            let e' : slice_get (slice_set n.seats at (moved s m)) at ≡ Some x = subst (λ (j : ℕ). slice_get (slice_set n.seats at (moved s m)) j ≡ Some x) here e in
+            let is_x : moved s m ≡ x = one_value (slice_get (slice_set n.seats at (moved s m)) at) (moved s m) x (get_set_same n.seats at (moved s m) (slice_get_within n.seats at s was)) e' in
+            subst (λ (y : Seated D). slice_get n.lengths y.disk ≡ Some (state (device y)).size) is_x (is.long.seats at s was ∙ ap Some (sym size))
+        | inr ne ↦ is.long.seats i x (sym (get_set_other n.seats at i (moved s m) ne) ∙ e)
+      ];
+      spares = is.long.spares;
+    };
   }
 
-  -- one volume moved, and kept its number
-  pub moved_keeps : (at : ℕ) (P : Mounted D → Mounted D → Type 0) (news : List (Seated D)) → ((m k : Mounted D) → P m k → k.number ≡ m.number) → MovesOne state at P n.seats news → IsNode state (record n { seats = news })
+  -- one volume moved, and kept its number and its disk's length
+  pub moved_keeps : (at : ℕ) (P : Mounted D → Mounted D → Type 0) (news : List (Seated D)) → ((m k : Mounted D) → P m k → (k.number ≡ m.number) × ((state k.disk).size ≡ (state m.disk).size)) → MovesOne state at P n.seats news → IsNode state (record n { seats = news })
   moved_keeps at P news same moves =
       subst (λ (seats : List (Seated D)). IsNode state (record n { seats = seats })) (sym moves.is)
-      (node_set at moves.old moves.new moves.was moves.kept (same moves.old.volume moves.new moves.did))
+      (let stays = same moves.old.volume moves.new moves.did in node_set at moves.old moves.new moves.was moves.kept stays.0 stays.1)

@@ -13,6 +13,8 @@ pub mod Bare
 pub mod VolumeTurning
 pub mod TurnLemmas
 pub mod SpareTurning
+pub mod SeatTurning
+pub mod LongTurning
 pub mod NodeTurning
 pub mod Trimming
 pub mod HalfSteps
@@ -26,7 +28,6 @@ mod Twice
 pub mod OneVolume
 pub mod BackAgain
 pub mod Returned
-pub mod LongTurning
 pub mod Counts
 pub mod Counting
 pub mod CountMoves
@@ -46,3 +47,6 @@ pub mod ReadLemmas
 pub mod SnapEvents
 pub mod ReadEvents
 mod LookActs
+pub mod CreateTests
+pub mod CreateLemmas
+pub mod Created

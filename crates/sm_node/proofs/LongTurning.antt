@@ -1,20 +1,15 @@
 -- The disks of a node are as long as before, through a restart.
-use Rattle.std.proofs.Common.{◌≡◌, ℕ, List, length, refl, sym, ◌∙◌, ap, subst, Some, None, inl, inr, arith}
-use Rattle.std.specs.Prelude.{slice_get, slice_set, Option}
-use Rattle.std.proofs.lemmas.Bool.{cases_eq}
+use Rattle.std.proofs.Common.{◌≡◌, ℕ, List, refl, sym, ◌∙◌, ap, subst, Some, None, arith}
+use Rattle.std.specs.Prelude.{slice_get, Option}
 use Rattle.std.proofs.lemmas.Option.{same_Some, slice_get_within}
 use Rattle.sm_base.specs.declared.numbers.Side.{Side}
 use Rattle.sm_disk.specs.Disk.{DiskState}
 use Rattle.sm_node.specs.Seats.{Seated, disk_number, device}
-use Rattle.sm_node.specs.Nodes.{Node, IsNode}
-use Rattle.sm_node.specs.Turning.{whole, cut}
-use Rattle.sm_node.specs.Turning.{SpareTurns, NodeTurns, IsTrimmed}
-use Rattle.sm_node.specs.Lengths.{AreAsLong}
+use Rattle.sm_node.specs.Nodes.{Node, AreAsLong}
+use Rattle.sm_node.specs.Turning.{SpareTurns, NodeTurns}
 use Rattle.sm_seats.proofs.Lists.{some_at, one_value}
-use Rattle.sm_node.proofs.Lists.{get_set_other, get_set_same, mapped_to}
-use Rattle.sm_node.proofs.Trimming.{get_front, get_last, last_within}
-use Rattle.sm_node.proofs.NodeTurning.{turn_long, turn_numbers}
-use Rattle.sm_node.proofs.HalfTurns.{turn_goes}
+use Rattle.sm_node.proofs.Lists.{mapped_to}
+use Rattle.sm_node.proofs.SeatTurning.{turn_long, turn_numbers, turn_goes}
 
 module _ {D : Type 0} (state : D → DiskState) where
   came_from : (x : Option D) (y : D) → SpareTurns state x (Some y) → (d : D) × (x ≡ Some d) × ((state y).size ≡ (state d).size)
@@ -36,21 +31,4 @@ module _ {D : Type 0} (state : D → DiskState) where
         let x = some_at n.spares k (let lt = slice_get_within n'.spares k (Some y) e in let same = h.spares.as_long in omega (arith, lt, same)) in
         let d = came_from x.0 y (h.spares.each k x.0 (Some y) x.1 e) in
         ap (λ (ls : List ℕ). slice_get ls k) h.lengths ∙ long.spares k d.0 (x.1 ∙ ap (λ (o : Option D). Some o) d.1) ∙ ap (λ (l : ℕ). Some l) (sym d.2);
-  }
-
-  pub long_trimmed : {n n' : Node D} → IsTrimmed n n' → IsNode state n → AreAsLong state n → AreAsLong state n'
-  long_trimmed (whole as_many) is long = long
-  long_trimmed (cut {n = n} front last seats few) is long = record {
-    root = long.root;
-    seats = λ i s e. long.seats i s (ap (λ (ss : List (Seated D)). slice_get ss i) seats ∙ get_front front last i s e);
-    spares = λ k x e. elim (cases_eq k last.disk) [
-      | inl same ↦
-          let here : slice_get (slice_set n.spares last.disk (Some (device last))) last.disk ≡ Some (Some x) = subst (λ (j : ℕ). slice_get (slice_set n.spares last.disk (Some (device last))) j ≡ Some (Some x)) same e in
-          let there = get_set_same n.spares last.disk (Some (device last)) (last_within front last state n is seats) in
-          let found : device last ≡ x = same_Some (device last) x (same_Some (Some (device last)) (Some x) (sym there ∙ here)) in
-          ap (λ (j : ℕ). slice_get n.lengths j) same
-          ∙ long.seats (length front) last (ap (λ (ss : List (Seated D)). slice_get ss (length front)) seats ∙ get_last front last)
-          ∙ ap (λ (y : D). Some (state y).size) found
-      | inr ne ↦ long.spares k x (sym (get_set_other n.spares last.disk k (Some (device last)) ne) ∙ e)
-    ];
   }

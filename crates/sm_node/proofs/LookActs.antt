@@ -18,7 +18,7 @@ use Rattle.sm_shape.specs.Blanked.{blanked, zeroed_volume}
 use Rattle.sm_node.specs.declared.fault.NodeFault.{NodeFault}
 use Rattle.sm_node.specs.Nodes.{Node, world_of}
 use Rattle.sm_node.specs.Parts.{StandsUp}
-use Rattle.sm_node.specs.Acts.{Acts, reached_of}
+use Rattle.sm_node.specs.Acts.{Acts, reached_of, GoesThrough}
 use Rattle.sm_node.specs.Served.{IsCopied, first_of}
 use Rattle.sm_node.specs.Looking.{Looks}
 use Rattle.sm_node.specs.Reporting.{LiesWithin, RelationsLieWithin}
@@ -31,7 +31,7 @@ looks_acts state a old new (Ok reply) stays looks = record {
   without_bytes = (looks.but_bytes, ap blanked (looks.same ∙ sym stays));
   failed = looks.failed;
   unchanged = looks.unchanged;
-  whole = looks.whole;
+  whole = GoesThrough.stays looks.whole.0 looks.whole.1;
 }
 looks_acts state a old new (Err fault) stays looks = record {
   up = tt;
@@ -39,7 +39,7 @@ looks_acts state a old new (Err fault) stays looks = record {
   without_bytes = tt;
   failed = looks.failed;
   unchanged = looks.unchanged;
-  whole = looks.whole;
+  whole = GoesThrough.stays looks.whole.0 looks.whole.1;
 }
 
 -- no device was called, and the reply was copied

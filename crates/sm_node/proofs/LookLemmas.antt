@@ -109,7 +109,7 @@ module _ {D : Type 0} (state : D → DiskState) (n : Node D) (h : StandsUp state
         but_bytes = tt;
         failed = λ other k e. record {
           allowed = allowed;
-          failed = record {
+          failed = inl (record {
             seat = suc at;
             named = λ v f. (let same : disk ≡ other = cc in ap (λ (x : DiskNo). x.0) (sym same)) ∙ named ∙ ap (λ (x : Volume). x.disk) (one_value (slice_get (world_of n).volumes at) (placed p s.volume) v (placed_there n.root.held.volumes n.seats at p s place was) f);
             old = device s;
@@ -118,7 +118,7 @@ module _ {D : Type 0} (state : D → DiskState) (n : Node D) (h : StandsUp state
             is = mapped_to device (slice_set n.seats at (moved s m)) at (moved s m) (get_set_same n.seats at (moved s m) (slice_get_within n.seats at s was));
             counted = counted;
             counts = (let same : count ≡ k = cc in sym same) ∙ counts;
-          };
+          });
           fallen = fallen_call state n h at p s m was place a (ap (λ (x : Mounted D). x.volume) is) (ap (λ (x : Mounted D). x.after) is);
           left_open = left_open_volume state n h at p s m was place;
         };

@@ -1,7 +1,7 @@
 -- A node through a restart of its disks.
 use Rattle.std.proofs.Common.{◌≡◌, ℕ, suc, ◌≤◌, List, ◌∷◌, length, map, refl, sym, ◌∙◌, ap, subst, Some, None, Result, Ok, Err, inl, inr, arith}
 use Rattle.std.specs.Prelude.{slice_get, slice_set, Option}
-use Rattle.std.proofs.lemmas.List.{length-set, map-set}
+use Rattle.std.proofs.lemmas.List.{length-set}
 use Rattle.std.proofs.lemmas.Bool.{cases_eq}
 use Rattle.std.proofs.lemmas.Option.{slice_get_within}
 use Rattle.sm_base.specs.declared.limits.TheConstants.{MOST_VOLUMES}
@@ -19,27 +19,17 @@ use Rattle.sm_register.specs.Turned.{of_side, joined}
 use Rattle.sm_catroot.specs.Catalog.{Catalog}
 use Rattle.sm_node.specs.Pending.{IsLong}
 use Rattle.sm_node.specs.Seats.{Seated, disk_number, device, IsAtSeat, AreAtSeats, moved}
-use Rattle.sm_node.specs.Nodes.{Node, numbers, IsLaidOut, IsNode}
+use Rattle.sm_node.specs.Nodes.{Node, numbers, LieOn, IsLaidOut, IsNode}
 use Rattle.sm_node.specs.Turning.{none, more}
 use Rattle.sm_node.specs.Turning.{VolumeTurns, RootTurns, InTurn, SpareTurns, SparesTurn, NodeTurns, VolumeFailed, SeatFailed}
 use Rattle.sm_seats.proofs.Lists.{some_at, one_value}
-use Rattle.sm_node.proofs.Lists.{get_set_other, get_set_same, set_again, mapped_to}
+use Rattle.sm_node.proofs.Lists.{get_set_other, get_set_same, mapped_to}
 use Rattle.sm_node.proofs.VolumeTurning.{joined_none}
 use Rattle.sm_node.proofs.SpareTurning.{spares_stay}
+use Rattle.sm_node.proofs.SeatTurning.{turn_long, turn_numbers}
+use Rattle.sm_node.proofs.LongTurning.{long_through}
 
 module _ {D : Type 0} (state : D → DiskState) where
-  pub turn_long : {olds news : List (Seated D)} {s t : Side} → InTurn state olds s news t → length news ≡ length olds
-  turn_long none = refl
-  turn_long (more {mids = mids} i r at old new was turns) = length-set mids at (moved old new) ∙ turn_long i
-
-  -- each volume stays on its disk
-  pub turn_numbers : {olds news : List (Seated D)} {s t : Side} → InTurn state olds s news t → map disk_number news ≡ map disk_number olds
-  turn_numbers none = refl
-  turn_numbers (more {mids = mids} i r at old new was turns) =
-      map-set disk_number mids at (moved old new)
-      ∙ set_again (map disk_number mids) at old.disk (mapped_to disk_number mids at old was)
-      ∙ turn_numbers i
-
   seats_set : (seats : List (Seated D)) (at : ℕ) (old : Seated D) (new : Mounted D) (r : Side) → AreAtSeats state seats → slice_get seats at ≡ Some old → VolumeTurns state r old.volume new → AreAtSeats state (slice_set seats at (moved old new))
   seats_set seats at old new r are was turns = λ i s e. elim (cases_eq i at) [
     | inl here ↦
@@ -117,23 +107,31 @@ module _ {D : Type 0} (state : D → DiskState) where
   held_long Before n k long less e = let same : n.root.held ≡ k = cc in subst (λ (j : Catalog). (length j.volumes ≤ length n.seats) × (length n.seats ≤ suc (length j.volumes))) same (less, long.held)
   held_long After n k long less e = let same = long.after k e in (omega (arith, same), omega (arith, same))
 
+  -- its places too are those of the seats
+  held_placed : (r : Side) (n : Node D) (k : Catalog) → IsNode state n → of_side r n.root.held n.root.after ≡ Some k → LieOn k.volumes (map disk_number n.seats)
+  held_placed Before n k is e = subst (λ (j : Catalog). LieOn j.volumes (map disk_number n.seats)) (let same : n.root.held ≡ k = cc in same) is.placed
+  held_placed After n k is e = is.placed_after k e
+
   -- ---- the node
 
   module _ (n n' : Node D) (s t : Side) (h : NodeTurns state n s n' t) (long : IsLong n) (is : IsNode state n) where
     pub node_turned : IsNode state n'
     node_turned =
-        let seats = turn_long h.volumes in
+        let seats = turn_long state h.volumes in
         let held = held_long h.r n n'.root.held long is.as_many h.root.held in
         record {
           as_many = let le = held.0 in omega (arith, seats, le);
           few = subst (λ (k : ℕ). k ≤ MOST_VOLUMES) (sym seats) is.few;
           seated = turn_seats h.volumes is.seated;
-          laid_out = subst (λ (ls : List ℕ). IsLaidOut n'.seats n'.spares ls) (sym h.lengths) (laid_out n'.seats n.spares n'.spares n.lengths h.spares (by_numbers n.seats n'.seats n.spares n.lengths (turn_numbers h.volumes) is.laid_out));
+          laid_out = subst (λ (ls : List ℕ). IsLaidOut n'.seats n'.spares ls) (sym h.lengths) (laid_out n'.seats n.spares n'.spares n.lengths h.spares (by_numbers n.seats n'.seats n.spares n.lengths (turn_numbers state h.volumes) is.laid_out));
+          placed = subst (λ (ks : List ℕ). LieOn n'.root.held.volumes ks) (sym (turn_numbers state h.volumes)) (held_placed h.r n n'.root.held is h.root.held);
+          placed_after = λ k e. subst (λ (ks : List ℕ). LieOn k.volumes ks) (sym (turn_numbers state h.volumes)) (is.placed_after k (h.root.after k e));
+          long = long_through state n n' s t h is.long;
         }
 
     pub long_turned : IsLong n'
     long_turned =
-        let seats = turn_long h.volumes in
+        let seats = turn_long state h.volumes in
         let held = held_long h.r n n'.root.held long is.as_many h.root.held in
         record {
           held = let le = held.1 in omega (arith, seats, le);

@@ -157,7 +157,7 @@ module _ {D : Type 0} (state : D → DiskState) (n : Node D) (h : StandsUp state
       (λ none. each_ok call.done _ _ call.read (λ read. tells_by past w image place (AllTold state n.seats) call.block (sym refusal ∙ none) (λ told. read (told f.at is.seat is.is_seat) image seen))))))
 
   pub read_keeps : MovesOne state f.at (IsReadCall state f.disk view place R) n.seats news → IsNode state (record n { seats = news })
-  read_keeps moves = moved_keeps state n h.node f.at (IsReadCall state f.disk view place R) news (λ m k d. reads_number state m k d.done d.reads) moves
+  read_keeps moves = moved_keeps state n h.node f.at (IsReadCall state f.disk view place R) news (λ m k d. (reads_number state m k d.done d.reads, d.reads.any_moment.size)) moves
 
 -- the node's parts are the node
 pub read_moved : {D : Type 0} (state : D → DiskState) (now : Node D) (n : Node D) → now ≡ n → StandsUp state now → (path : List ℕ) (f : Named) (is : IsNamedAt now path f) (name : Option (List ℕ)) (place : ℕ) (view : View) → view_named (placed is.place is.seat.volume) name ≡ Ok view
@@ -191,7 +191,7 @@ module _ {D : Type 0} (state : D → DiskState) (n : Node D) (h : StandsUp state
       ))))))
 
   pub digest_keeps : MovesOne state number.0 (IsDigestCall state disk view line R) n.seats news → IsNode state (record n { seats = news })
-  digest_keeps moves = moved_keeps state n h.node number.0 (IsDigestCall state disk view line R) news (λ m k d. reads_number state m k d.done d.reads) moves
+  digest_keeps moves = moved_keeps state n h.node number.0 (IsDigestCall state disk view line R) news (λ m k d. (reads_number state m k d.done d.reads, d.reads.any_moment.size)) moves
 
 -- the line on a snapshot
 pub snapshot_line_is : (number : VolNo) (v : Volume) (k : ℕ) (r : RootSnapshot) (name : List ℕ) (label : Option (List ℕ)) (d : List ℕ) → KeysDiffer ident_of v.snapshots → slice_get (map kept_snapshot v.snapshots) k ≡ Some r → name ≡ r.name → label ≡ r.label
@@ -253,7 +253,7 @@ digest_moved {D} state now n same_node h number place t disk named view line il 
 
 pub digest_moved_keeps : {D : Type 0} (state : D → DiskState) (now : Node D) (n : Node D) → now ≡ n → StandsUp state now → (number : VolNo) (disk : DiskNo) (view : View) (line : Line) (R : Result Reply NodeFault) (news : List (Seated D)) → MovesOne state number.0 (IsDigestCall state disk view line R) n.seats news → IsNode state (record n { seats = news })
 digest_moved_keeps {D} state now n same_node h number disk view line R news moves =
-    moved_keeps state n (subst (IsNode state) same_node h.node) number.0 (IsDigestCall state disk view line R) news (λ m k d. reads_number state m k d.done d.reads) moves
+    moved_keeps state n (subst (IsNode state) same_node h.node) number.0 (IsDigestCall state disk view line R) news (λ m k d. (reads_number state m k d.done d.reads, d.reads.any_moment.size)) moves
 
 -- ---- by the place that the code matches on
 

@@ -28,14 +28,15 @@ use Rattle.sm_node.specs.Returning.{GoesInPair, Returns, StaysDown}
 use Rattle.sm_seats.proofs.Lists.{some_at, one_value}
 use Rattle.sm_node.proofs.Lists.{get_set_other, get_set_same, mapped_to}
 use Rattle.sm_node.proofs.Trimming.{get_front, get_last, last_within}
-use Rattle.sm_node.proofs.NodeTurning.{turn_long, node_turned}
+use Rattle.sm_node.proofs.SeatTurning.{turn_long}
+use Rattle.sm_node.proofs.NodeTurning.{node_turned}
 use Rattle.sm_node.proofs.HalfSteps.{no_side, stays_none, joined_before}
 use Rattle.sm_node.proofs.HalfTurns.{node_half, seat_goes, turns_whole}
 use Rattle.sm_node.proofs.BackAgain.{bare_again, world_again}
 
 -- ---- the volume behind the others is taken off
 
-placed_front : {D : Type 0} (ps : List Placed) (front : List (Seated D)) (last : Seated D) → length ps ≤ length front → all_placed ps (front ++ last ∷ []) ≡ all_placed ps front
+pub placed_front : {D : Type 0} (ps : List Placed) (front : List (Seated D)) (last : Seated D) → length ps ≤ length front → all_placed ps (front ++ last ∷ []) ≡ all_placed ps front
 unfolding all_placed
 placed_front [] front last le = refl
 placed_front (p ∷ ps) [] last le = absurd (omega (arith, le))

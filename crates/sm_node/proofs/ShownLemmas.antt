@@ -11,7 +11,7 @@ use Rattle.sm_model.specs.Answers.{Answer, told, and_then, volume_named, volno}
 use Rattle.sm_model.specs.OfReport.{show_snapshots, listed_line}
 use Rattle.sm_node.specs.Nodes.{Node, world_of}
 use Rattle.sm_node.specs.Parts.{devices, StandsUp}
-use Rattle.sm_node.specs.Acts.{Acts}
+use Rattle.sm_node.specs.Acts.{Acts, GoesThrough}
 use Rattle.sm_node.proofs.ButBytesLemmas.{reply_itself}
 use Rattle.sm_node.proofs.SeatLemmas.{parts_now}
 
@@ -22,7 +22,7 @@ shown state n h a reply is = subst (λ (b : Answer). Acts state b n (Ok reply) n
   without_bytes = (reply_itself reply, refl);
   failed = λ disk count e. absurd (cc);
   unchanged = λ e. absurd (cc);
-  whole = (0, h.nothing_changes 0 (world_of n) (world_of n) (devices n) (parts_now state n h));
+  whole = GoesThrough.stays 0 (h.nothing_changes 0 (world_of n) (world_of n) (devices n) (parts_now state n h));
 })
 
 pub shows_none : (w : Up) (path : List ℕ) (g : Refusal) → volume_named w path ≡ Err g → show_snapshots w path ≡ Err g

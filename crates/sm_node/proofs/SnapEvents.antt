@@ -58,7 +58,7 @@ module _ {D : Type 0} (state : D → DiskState) (n : Node D) (h : StandsUp state
 
   pub snap_keeps : (name : List ℕ) (label : Option (List ℕ)) (ident : Ident) (time : ℕ) → MovesOne state f.at (IsSnapCall state ident f.disk name label time R) n.seats news → IsNode state (record n { seats = news })
   snap_keeps name label ident time moves = moved_keeps state n h.node f.at (IsSnapCall state ident f.disk name label time R) news
-      (λ m k d. commits_number state m k (snapped m.volume (record { ident = ident; name = name; label = label; time = time; made = 0 })) d.0 d.3) moves
+      (λ m k d. (commits_number state m k (snapped m.volume (record { ident = ident; name = name; label = label; time = time; made = 0 })) d.0 d.3, d.3.any_moment.size)) moves
 
   pub unsnap_acts : (name : List ℕ) (ident : Ident) → removal (world_of n) f.at (placed is.place is.seat.volume) name ≡ Ok ident → MovesOne state f.at (IsRemoveCall state ident f.disk R) n.seats news → Acts state (answers.unsnap (world_of n) path name) n R (record n { seats = news })
   unsnap_acts name ident free moves =
@@ -70,7 +70,7 @@ module _ {D : Type 0} (state : D → DiskState) (n : Node D) (h : StandsUp state
       moves
 
   pub unsnap_keeps : (ident : Ident) → MovesOne state f.at (IsRemoveCall state ident f.disk R) n.seats news → IsNode state (record n { seats = news })
-  unsnap_keeps ident moves = moved_keeps state n h.node f.at (IsRemoveCall state ident f.disk R) news (λ m k d. commits_number state m k (removed m.volume (ident ∷ [])) d.0 d.3) moves
+  unsnap_keeps ident moves = moved_keeps state n h.node f.at (IsRemoveCall state ident f.disk R) news (λ m k d. (commits_number state m k (removed m.volume (ident ∷ [])) d.0 d.3, d.3.any_moment.size)) moves
 
 -- the node's parts are the node
 pub removed_by : {D : Type 0} (state : D → DiskState) (now : Node D) (n : Node D) → now ≡ n → StandsUp state now → (path : List ℕ) (f : Named) (is : IsNamedAt now path f) (name : List ℕ) (ident : Ident) → removal (world_of now) f.at (placed is.place is.seat.volume) name ≡ Ok ident

@@ -1,13 +1,15 @@
 -- The volume behind those of the catalogue is taken off.
-use Rattle.std.proofs.Common.{◌≡◌, ◌≢◌, ℕ, zero, suc, ◌<◌, ◌≤◌, List, [], ◌∷◌, ◌++◌, length, refl, sym, ◌∙◌, ap, subst, Some, None, inl, inr, length-append, arith}
+use Rattle.std.proofs.Common.{◌≡◌, ◌≢◌, ℕ, zero, suc, ◌<◌, ◌≤◌, List, [], ◌∷◌, ◌++◌, length, map, refl, sym, ◌∙◌, ap, subst, Some, None, inl, inr, length-append, arith}
 use Rattle.std.specs.Prelude.{slice_get, slice_set, Option}
 use Rattle.std.proofs.lemmas.List.{length-set, map_push}
 use Rattle.std.proofs.lemmas.Bool.{cases_eq}
+use Rattle.std.proofs.lemmas.Option.{same_Some}
 use Rattle.sm_defs.specs.Words.{Among, KeysDiffer}
 use Rattle.sm_defs.proofs.Members.{among_left, among_last, among_push, each_among, among_each}
 use Rattle.sm_disk.specs.Disk.{DiskState}
+use Rattle.sm_catroot.specs.declared.placed.Placed.{Placed}
 use Rattle.sm_node.specs.Seats.{Seated, disk_number, device}
-use Rattle.sm_node.specs.Nodes.{Node, numbers, IsLaidOut, IsNode}
+use Rattle.sm_node.specs.Nodes.{Node, numbers, LieOn, AreAsLong, IsLaidOut, IsNode}
 use Rattle.sm_base.specs.declared.numbers.DiskNo.{DiskNo}
 use Rattle.sm_node.specs.Turning.{TakesLast, IsTrimmed}
 use Rattle.sm_node.proofs.Lists.{get_set_other, get_set_same}
@@ -60,12 +62,38 @@ module _ {D : Type 0} (front : List (Seated D)) (last : Seated D) where
     pub last_within : last.disk < length n.spares
     last_within = is.laid_out.within last.disk (subst (λ (ss : List (Seated D)). Among (numbers ss) last.disk) (sym seats) (subst (λ (ns : List ℕ). Among ns last.disk) (sym all_numbers) (among_last (numbers front) last.disk)))
 
+    front_at : (i : ℕ) (s : Seated D) → slice_get front i ≡ Some s → slice_get n.seats i ≡ Some s
+    front_at i s e = ap (λ (ss : List (Seated D)). slice_get ss i) seats ∙ get_front front last i s e
+
+    -- a place of those in front is one of all
+    front_numbers : (ps : List Placed) → LieOn ps (map disk_number n.seats) → LieOn ps (map disk_number front)
+    front_numbers ps lie = λ i p disk e f. lie i p disk e (ap (λ (ss : List (Seated D)). slice_get (map disk_number ss) i) seats ∙ ap (λ (ks : List ℕ). slice_get ks i) (map_push disk_number front last) ∙ get_front (map disk_number front) last.disk i disk f)
+
+    cut_long : AreAsLong state (record n { seats = front; spares = slice_set n.spares last.disk (Some (device last)) })
+    cut_long = record {
+      root = is.long.root;
+      seats = λ i s e. is.long.seats i s (front_at i s e);
+      spares = λ k x e. elim (cases_eq k last.disk) [
+        | inl same ↦
+            let here : slice_get (slice_set n.spares last.disk (Some (device last))) last.disk ≡ Some (Some x) = subst (λ (j : ℕ). slice_get (slice_set n.spares last.disk (Some (device last))) j ≡ Some (Some x)) same e in
+            let there = get_set_same n.spares last.disk (Some (device last)) last_within in
+            let found : device last ≡ x = same_Some (device last) x (same_Some (Some (device last)) (Some x) (sym there ∙ here)) in
+            ap (λ (j : ℕ). slice_get n.lengths j) same
+            ∙ is.long.seats (length front) last (ap (λ (ss : List (Seated D)). slice_get ss (length front)) seats ∙ get_last front last)
+            ∙ ap (λ (y : D). Some (state y).size) found
+        | inr ne ↦ is.long.spares k x (sym (get_set_other n.spares last.disk k (Some (device last)) ne) ∙ e)
+      ];
+    }
+
     pub cut_node : length front ≡ length n.root.held.volumes → IsNode state (record n { seats = front; spares = slice_set n.spares last.disk (Some (device last)) })
     cut_node long = record {
       as_many = omega (arith, long);
       few = let le = is.few in let all = ap length seats ∙ length-append front (last ∷ []) in omega (arith, le, all);
-      seated = λ i s e. is.seated i s (ap (λ (ss : List (Seated D)). slice_get ss i) seats ∙ get_front front last i s e);
+      seated = λ i s e. is.seated i s (front_at i s e);
       laid_out = cut_laid_out n.spares n.lengths (device last) (subst (λ (ss : List (Seated D)). IsLaidOut ss n.spares n.lengths) seats is.laid_out);
+      placed = front_numbers n.root.held.volumes is.placed;
+      placed_after = λ k e. front_numbers k.volumes (is.placed_after k e);
+      long = cut_long;
     }
 
 -- one volume is behind those of the catalogue

@@ -1,20 +1,24 @@
 -- Which memory the reply of an event owns.
 use Rattle.std.proofs.Common.{◌≡◌, ℕ, Bool, true, false, nat_lt, List, length, Option, Some, None, Ok, Err, Result, refl, sym, ap, subst}
-use Rattle.std.specs.Prelude.{◌==◌, ◌||◌}
+use Rattle.std.specs.Prelude.{◌==◌, ◌||◌, slice_get}
+use Rattle.std.specs.List.{list_any}
 use Rattle.std.specs.Str.{bytes_eq}
-use Rattle.sm_base.specs.declared.limits.TheConstants.{MOST_SNAPSHOTS, LAST_NUMBER}
+use Rattle.sm_base.specs.declared.limits.TheConstants.{MOST_VOLUMES, MOST_SNAPSHOTS, LAST_NUMBER}
+use Rattle.sm_base.specs.declared.numbers.DiskNo.{DiskNo}
+use Rattle.sm_base.specs.declared.numbers.Kind.{Kind}
+use Rattle.sm_base.specs.declared.refusal.What.TheVariants.{Volumes}
 use Rattle.sm_base.specs.declared.refusal.Refusal.{Refusal}
 use Rattle.sm_base.specs.declared.refusal.Refusal.TheVariants as refusals
 use Rattle.sm_disk.specs.Disk.{DiskState}
 use Rattle.sm_defs.specs.Words.{Found, found, last_that}
-use Rattle.sm_defs.specs.Volume.{Volume, Snapshot}
+use Rattle.sm_defs.specs.Volume.{Volume, Snapshot, new_volume, length_needed}
 use Rattle.sm_defs.specs.Relationship.{Relationship}
 use Rattle.sm_defs.specs.Needed.{holder}
 use Rattle.sm_defs.specs.Operations.{settled, is_read_only, is_past, is_used_up, has_name}
 use Rattle.sm_defs.specs.World.{Up, with_volume}
 use Rattle.sm_model.specs.declared.reply.Reply.{Reply}
 use Rattle.sm_model.specs.declared.reply.Reply.TheVariants as replies
-use Rattle.sm_model.specs.Answers.{Answer, and_then, refused_if, some_or, shows, relno, ◌when◌, ◌>>◌, ◌and◌}
+use Rattle.sm_model.specs.Answers.{Answer, and_then, refused_if, some_or, shows, volno, relno, ◌when◌, ◌>>=◌, ◌>>◌, ◌and◌}
 use Rattle.sm_model.specs.OfPolicies as policies
 use Rattle.sm_model.specs.OfVolumes as answers
 use Rattle.sm_node.specs.declared.fault.NodeFault.{NodeFault}
@@ -48,6 +52,12 @@ unfolding and_then some_or
 on_snapshot path name None f reply rest h = told_is path (Some name) (replies.Refused (refusals.NoSnapshot name)) reply refl h
 on_snapshot path name (Some s) f reply rest h = rest s h
 
+-- the length of a disk
+on_disk : (disk : DiskNo) (o : Option ℕ) (f : ℕ → Answer) (reply : Reply) → ((len : ℕ) → IsRepliedButBytes (f len) reply → IsSpared None None reply) → IsRepliedButBytes (and_then (some_or (refusals.NoDisk disk) o) f) reply → IsSpared None None reply
+unfolding and_then some_or
+on_disk disk None f reply rest h = told_is None None (replies.Refused (refusals.NoDisk disk)) reply tt h
+on_disk disk (Some len) f reply rest h = rest len h
+
 unless_held : (path name : Option (List ℕ)) (o : Option Relationship) (a : Answer) (reply : Reply) → (IsRepliedButBytes a reply → IsSpared path name reply) → IsRepliedButBytes (and_then (answers.held o) (λ _. a)) reply → IsSpared path name reply
 unfolding and_then answers.held
 unless_held path name None a reply rest h = rest h
@@ -57,6 +67,22 @@ unless_held path name (Some r) a reply rest h = told_is path name (replies.Refus
 
 pub clock_spared : (w : Up) (time : ℕ) (reply : Reply) → IsRepliedButBytes (policies.set_clock w time) reply → IsSpared None None reply
 clock_spared w time reply h = unless None None (nat_lt time w.clock) (refusals.ClockBack w.clock) (replies.Done and policies.at_time w time) reply tt (told_is None None replies.Done reply tt) h
+
+pub create_spared : (w : Up) (path : List ℕ) (disk : DiskNo) (kind : Kind) (logical physical : ℕ) (reply : Reply) → IsRepliedButBytes (answers.create_volume w path disk kind logical physical) reply → IsSpared None None reply
+create_spared w path disk kind logical physical reply h =
+    let need = length_needed physical in
+    let done : Answer = replies.Created (volno (length w.volumes)) and answers.with_new_volume w (new_volume path disk.0 kind (length w.volumes) logical physical) in
+    let long : ℕ → Answer = λ len. (refusals.DiskSmall need len when nat_lt len need) >> done in
+    let few : ℕ → Answer = λ len. (refusals.Full Volumes when length w.volumes == MOST_VOLUMES) >> long len in
+    let free : ℕ → Answer = λ len. (refusals.DiskTaken when list_any (λ (v : Volume). v.disk == disk.0) w.volumes) >> few len in
+    let there : Answer = some_or (refusals.NoDisk disk) (slice_get w.disks disk.0) >>= free in
+    unless None None (list_any (λ (v : Volume). bytes_eq v.path path) w.volumes) refusals.NameTaken ((refusals.NoDisk disk when disk.0 == 0) >> there) reply tt
+    (unless None None (disk.0 == 0) (refusals.NoDisk disk) there reply tt
+    (on_disk disk (slice_get w.disks disk.0) free reply
+    (λ len. unless None None (list_any (λ (v : Volume). v.disk == disk.0) w.volumes) refusals.DiskTaken (few len) reply tt
+    (unless None None (length w.volumes == MOST_VOLUMES) (refusals.Full Volumes) (long len) reply tt
+    (unless None None (nat_lt len need) (refusals.DiskSmall need len) done reply tt
+    (told_is None None (replies.Created (volno (length w.volumes))) reply tt)))))) h
 
 pub cp_spared : (w : Up) (path : List ℕ) (reply : Reply) → IsRepliedButBytes (answers.cp w path) reply → IsSpared (Some path) None reply
 cp_spared w path reply h =

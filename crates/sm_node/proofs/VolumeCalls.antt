@@ -1,12 +1,11 @@
 -- An event that is one call of one volume.
-use Rattle.std.proofs.Common.{◌≡◌, ◌≢◌, ◌⊎◌, inl, inr, ⊎_elim, ℕ, zero, suc, ◌<◌, true, List, ◌∷◌, length, map, refl, sym, ◌∙◌, ap, subst, ◌≤◌}
+use Rattle.std.proofs.Common.{◌≡◌, ◌≢◌, ◌⊎◌, inl, inr, ⊎_elim, ℕ, zero, suc, true, List, refl, sym, ◌∙◌, ap, subst}
 use Rattle.std.specs.Prelude.{slice_get, slice_set, replicate, Option, Some, None, Result, Ok, Err, OnErr}
 use Rattle.std.proofs.lemmas.List.{length-set, map-set}
 use Rattle.std.proofs.lemmas.Option.{slice_get_within}
 use Rattle.std.proofs.lemmas.Bool.{cases_eq}
 use Rattle.sm_base.specs.declared.numbers.DiskNo.{DiskNo}
 use Rattle.sm_base.specs.declared.refusal.Refusal.{Refusal}
-use Rattle.sm_base.specs.declared.limits.TheConstants.{MOST_VOLUMES}
 use Rattle.sm_disk.specs.Image.{Image}
 use Rattle.sm_disk.specs.Disk.{DiskState, GoesOn, IsCounted}
 use Rattle.sm_disk.proofs.Moments.{begun, weaker}
@@ -15,7 +14,6 @@ use Rattle.sm_defs.specs.Image.{Block, full_block}
 use Rattle.sm_defs.specs.Operations.{written, least_free}
 use Rattle.sm_defs.specs.Volume.{Volume}
 use Rattle.sm_defs.specs.World.{Up, with_volume}
-use Rattle.sm_defs.specs.Words.{Among, KeysDiffer}
 use Rattle.sm_model.specs.declared.reply.Reply.{Reply}
 use Rattle.sm_model.specs.declared.reply.Reply.TheVariants as replies
 use Rattle.sm_model.specs.Answers.{Answer, volno, told}
@@ -26,21 +24,20 @@ use Rattle.volume_store.specs.declared.faults.VolumeFault.TheVariants as faults
 use Rattle.sm_catroot.specs.declared.placed.Placed.{Placed}
 use Rattle.sm_volume.specs.Mounted.{Mounted}
 use Rattle.sm_volume.specs.Shown.{Shows}
-use Rattle.sm_volume.specs.Kept.{IsKept}
 use Rattle.sm_volume.specs.Commits.{Commits}
 use Rattle.sm_volume.specs.Refusals.{write_refusal}
 use Rattle.sm_shape.specs.Blank.{blank_block}
 use Rattle.sm_shape.specs.Blanked.{zeroed, zeroed_volume, blanked}
 use Rattle.sm_node.specs.declared.fault.NodeFault.{NodeFault}
 use Rattle.sm_node.specs.declared.fault.NodeFault.TheVariants.{Down, NoMemory as OutOfMemory}
-use Rattle.sm_node.specs.Seats.{Seated, disk_number, device, moved, IsAtSeat, AllUp}
-use Rattle.sm_node.specs.Nodes.{Node, placed, world_of, numbers, IsLaidOut, IsNode, IsUp}
+use Rattle.sm_node.specs.Seats.{Seated, device, moved, AllUp}
+use Rattle.sm_node.specs.Nodes.{Node, placed, world_of, IsUp}
 use Rattle.sm_node.specs.Parts.{place_of, devices, part, AllTold, StandsUp}
 use Rattle.sm_node.specs.Moves.{refusal_of, fault_answer, event_answer, at_place, Matches, Writes}
-use Rattle.sm_node.specs.Acts.{IsFallen, Acts}
+use Rattle.sm_node.specs.Acts.{IsFallen, GoesThrough, Acts}
 use Rattle.sm_seats.proofs.Lists.{one_value}
 use Rattle.sm_node.proofs.ButBytesLemmas.{reply_itself}
-use Rattle.sm_node.proofs.Lists.{get_set_other, get_set_same, set_again, mapped_to, keys_set}
+use Rattle.sm_node.proofs.Lists.{get_set_other, get_set_same, set_again, mapped_to}
 use Rattle.sm_shape.proofs.Blanking.{with_blanked}
 use Rattle.sm_node.proofs.Worlds.{placed_there, shows_placed, world_set, catalog_set}
 use Rattle.sm_node.proofs.SeatLemmas.{volume_goes_whole}
@@ -131,7 +128,7 @@ module _ {D : Type 0} (state : D → DiskState) (n : Node D) (h : StandsUp state
     without_bytes = (refl, ap (λ (x : Node D). blanked (world_of x)) (node_same same));
     failed = λ disk count e. absurd (cc);
     unchanged = λ e. absurd (cc);
-    whole = (suc at, whole_same same);
+    whole = GoesThrough.stays (suc at) (whole_same same);
   }
 
   -- the call is no refusal: its volume goes to the next one, or stays
@@ -160,7 +157,7 @@ module _ {D : Type 0} (state : D → DiskState) (n : Node D) (h : StandsUp state
       );
       failed = λ disk count e. absurd (cc);
       unchanged = λ e. absurd (cc);
-      whole = (suc at, whole_next);
+      whole = GoesThrough.stays (suc at) whole_next;
     }
 
     -- its disk failed
@@ -173,7 +170,7 @@ module _ {D : Type 0} (state : D → DiskState) (n : Node D) (h : StandsUp state
       without_bytes = tt;
       failed = λ other k e. record {
         allowed = tt;
-        failed = record {
+        failed = inl (record {
           seat = suc at;
           named = λ v f. (let same : disk ≡ other = cc in ap (λ (x : DiskNo). x.0) (sym same)) ∙ named ∙ ap (λ (x : Volume). x.disk) (one_value (slice_get (world_of n).volumes at) (placed p s.volume) v there f);
           old = device s;
@@ -182,12 +179,12 @@ module _ {D : Type 0} (state : D → DiskState) (n : Node D) (h : StandsUp state
           is = mapped_to device (slice_set n.seats at (moved s m)) at (moved s m) (get_set_same n.seats at (moved s m) (slice_get_within n.seats at s was));
           counted = counted;
           counts = (let same : count ≡ k = cc in sym same) ∙ counts;
-        };
+        });
         fallen = fallen_so;
         left_open = left_open_volume state n h at p s m was place;
       };
       unchanged = λ e. absurd (cc);
-      whole = (suc at, whole_next);
+      whole = GoesThrough.stays (suc at) whole_next;
     }
 
     -- memory was wanting
@@ -198,7 +195,7 @@ module _ {D : Type 0} (state : D → DiskState) (n : Node D) (h : StandsUp state
       without_bytes = tt;
       failed = λ disk count e. absurd (cc);
       unchanged = λ e. node_same same;
-      whole = (suc at, whole_next);
+      whole = GoesThrough.stays (suc at) whole_next;
     }
 
   -- one call that commits
@@ -305,33 +302,3 @@ writes_number state at content m m' (Err f) c = elim (is_fault f) [
   | inl e ↦ ap (λ (x : Mounted _). x.number) (c.fault (ap Err e))
   | inr ne ↦ ap (λ (x : Mounted _). x.number) (c.unchanged f refl ne)
 ]
-
--- a node stays one where a volume moved
-pub node_set : {D : Type 0} (state : D → DiskState) (n : Node D) (at : ℕ) (s : Seated D) (m : Mounted D) → IsNode state n → slice_get n.seats at ≡ Some s → IsKept state m → m.number ≡ s.volume.number → IsNode state (record n { seats = slice_set n.seats at (moved s m) })
-node_set state n at s m is was kept same = record {
-  as_many = subst (λ (l : ℕ). length n.root.held.volumes ≤ l) (sym (length-set n.seats at (moved s m))) is.as_many;
-  few = subst (λ (l : ℕ). l ≤ MOST_VOLUMES) (sym (length-set n.seats at (moved s m))) is.few;
-  seated = λ i x e. elim (cases_eq i at) [
-    | inl here ↦
-        let e' : slice_get (slice_set n.seats at (moved s m)) at ≡ Some x = subst (λ (j : ℕ). slice_get (slice_set n.seats at (moved s m)) j ≡ Some x) here e in
-        let is_x : moved s m ≡ x = one_value (slice_get (slice_set n.seats at (moved s m)) at) (moved s m) x (get_set_same n.seats at (moved s m) (slice_get_within n.seats at s was)) e' in
-        subst (λ (y : Seated _). IsAtSeat state i y) is_x (record { kept = kept; numbered = same ∙ (is.seated at s was).numbered ∙ ap volno (sym here) })
-    | inr ne ↦ is.seated i x (sym (get_set_other n.seats at i (moved s m) ne) ∙ e)
-  ];
-  laid_out = laid_out;
-}
-  where
-    same_numbers : map disk_number (slice_set n.seats at (moved s m)) ≡ map disk_number n.seats
-    same_numbers = keys_set disk_number n.seats at s (moved s m) was refl
-
-    numbered : numbers n.seats ≡ numbers (slice_set n.seats at (moved s m))
-    numbered = ap (λ (ns : List ℕ). zero ∷ ns) (sym same_numbers)
-
-    laid_out : IsLaidOut (slice_set n.seats at (moved s m)) n.spares n.lengths
-    laid_out = record {
-      as_many = is.laid_out.as_many;
-      apart = subst (λ (ns : List ℕ). KeysDiffer (λ (k : ℕ). k) ns) numbered is.laid_out.apart;
-      within = subst (λ (ns : List ℕ). (k : ℕ) → Among ns k → k < length n.spares) numbered is.laid_out.within;
-      taken = subst (λ (ns : List ℕ). (k : ℕ) → Among ns k → slice_get n.spares k ≡ Some None) numbered is.laid_out.taken;
-      left = subst (λ (ns : List ℕ). (k : ℕ) → slice_get n.spares k ≡ Some None → Among ns k) numbered is.laid_out.left;
-    }

@@ -1,5 +1,6 @@
 -- What an event does to a node that is up.
-use Rattle.std.specs.Prelude.{◌≡◌, ◌⊎◌, ℕ, zero, suc, List, Some, slice_get, Result, Ok, Err, IfOk}
+use Rattle.std.specs.Prelude.{◌≡◌, ◌⊎◌, ℕ, zero, suc, List, [], ◌∷◌, ◌++◌, map, Option, Some, slice_get, Result, Ok, Err, IfOk}
+use Rattle.std.proofs.Common.{inl, inr}
 use Rattle.sm_base.specs.declared.numbers.DiskNo.{DiskNo}
 use Rattle.sm_defs.specs.Volume.{Volume}
 use Rattle.sm_defs.specs.World.{Up}
@@ -11,9 +12,10 @@ use Rattle.sm_model.specs.Answers.{Answer, Tells}
 use Rattle.sm_shape.specs.Blanked.{blanked}
 use Rattle.sm_node.specs.declared.fault.NodeFault.{NodeFault}
 use Rattle.sm_node.specs.declared.fault.NodeFault.TheVariants.{Down, NoMemory as OutOfMemory}
+use Rattle.sm_node.specs.Seats.{disk_number}
 use Rattle.sm_node.specs.Nodes.{Node, world_of, IsUp}
 use Rattle.sm_node.specs.ButBytes.{IsRepliedButBytes}
-use Rattle.sm_node.specs.Pending.{world_ahead, NothingPending, IsLeftOpen}
+use Rattle.sm_node.specs.Pending.{world_ahead, NothingPending, IsLong, IsLeftOpen}
 use Rattle.sm_node.specs.Parts.{devices, part, AllTold}
 
 -- ---- of the definitions' answer
@@ -55,18 +57,45 @@ pub record HasFailed {D : Type 0} (state : D → DiskState) (w : Up) (disk : Dis
   pub counted : IsCounted (state old) (state new)
   pub counts : count ≡ (state new).faults
 
+-- Or a disk failed that is at hand before and after.
+pub record SpareHasFailed {D : Type 0} (state : D → DiskState) (number count : ℕ) (olds news : List (Option D)) : Type 0 where
+  pub old : D
+  pub new : D
+  pub was : slice_get olds number ≡ Some (Some old)
+  pub is : slice_get news number ≡ Some (Some new)
+  pub counted : IsCounted (state old) (state new)
+  pub counts : count ≡ (state new).faults
+
+-- the disk of this number failed in this event, at a seat or at hand
+abbrev pub DiskHasFailed : {D : Type 0} → (D → DiskState) → Up → DiskNo → ℕ → Node D → Node D → Type 0
+DiskHasFailed state w disk count old new = HasFailed state w disk count (devices old) (devices new) ⊎ SpareHasFailed state disk.0 count old.spares new.spares
+
 -- The node shows the world before the event, and beside it the one after, or none where the event was to commit nothing
 -- or failed before its commit.
 pub record IsFallen {D : Type 0} (a : Answer) (old new : Node D) : Type 0 where
   pub before : world_of new ≡ world_of old
   pub after : (world_ahead new ≡ reached_of (world_of old) a) ⊎ NothingPending new
 
+-- at most the commit of the disk that failed is left open; a disk at hand has none
+abbrev pub IsLeftOpenBy : {D : Type 0} → (state : D → DiskState) → (w : Up) → (disk : DiskNo) → (count : ℕ) → (old new : Node D) → DiskHasFailed state w disk count old new → Type 0
+IsLeftOpenBy state w disk count old new (inl at_seat) = IsLeftOpen at_seat.seat new
+IsLeftOpenBy state w disk count old new (inr at_hand) = NothingPending new × IsLong new
+
 -- the event is no refusal, and the disk of this number failed in it
 pub record Fails {D : Type 0} (state : D → DiskState) (a : Answer) (disk : DiskNo) (count : ℕ) (old new : Node D) : Type 0 where
   pub allowed : IsAllowed a
-  pub failed : HasFailed state (world_of old) disk count (devices old) (devices new)
+  pub failed : DiskHasFailed state (world_of old) disk count old new
   pub fallen : IsFallen a old new
-  pub left_open : IsLeftOpen failed.seat new
+  pub left_open : IsLeftOpenBy state (world_of old) disk count old new failed
+
+-- ---- the crash clause
+
+-- From whatever moment since the event began the images of its disks are, they show the world before or the one after.
+-- Either each disk stays at its seat, or one that was at hand lies at a seat behind the others now.
+pub data GoesThrough {D : Type 0} (state : D → DiskState) (before after : Up) (old new : Node D) : Type 0 where
+  stays : (commits : ℕ) → GoesWhole state commits (part before) (part after) (devices old) (devices new) → GoesThrough state before after old new
+  joins : (number : ℕ) (blank : D) → slice_get old.spares number ≡ Some (Some blank) → map disk_number new.seats ≡ map disk_number old.seats ++ number ∷ []
+      → GoesWhole state 0 (part before) (part after) (devices old ++ blank ∷ []) (devices new) → GoesThrough state before after old new
 
 -- ---- the event
 
@@ -79,4 +108,4 @@ pub record Acts {D : Type 0} (state : D → DiskState) (a : Answer) (old : Node 
   pub without_bytes : IfOk result (λ reply. IsRepliedButBytes a reply × (blanked (world_of new) ≡ blanked (reached_of (world_of old) a)))
   pub failed : (disk : DiskNo) (count : ℕ) → result ≡ Err (Down disk count) → Fails state a disk count old new
   pub unchanged : result ≡ Err OutOfMemory → new ≡ old
-  pub whole : (commits : ℕ) × GoesWhole state commits (part (world_of old)) (part (reached_of (world_of old) a)) (devices old) (devices new)
+  pub whole : GoesThrough state (world_of old) (reached_of (world_of old) a) old new

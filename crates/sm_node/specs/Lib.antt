@@ -13,12 +13,12 @@ pub mod Turning
 pub mod Halved
 pub mod HandedBack
 pub mod Returning
-pub mod Lengths
 pub mod Counted
 pub mod Holding
 pub mod Showing
 pub mod Reading
 pub mod Snapping
+pub mod Creating
 pub mod Removing
 pub mod Reporting
 pub mod Looking

@@ -13,7 +13,7 @@ use Rattle.sm_relation.specs.declared.relation.Relation.{Relation}
 use Rattle.sm_relation.specs.Shown.{relationship_of}
 use Rattle.sm_model.specs.Opened.{rejoined}
 use Rattle.sm_volume.specs.Mounted.{Mounted}
-use Rattle.sm_node.specs.Seats.{Seated, disk_number, AreAtSeats, AllUp}
+use Rattle.sm_node.specs.Seats.{Seated, disk_number, device, AreAtSeats, AllUp}
 
 -- Disk 0 has the register, each volume its own disk; what is left of the disks lies at the places of their numbers. `lengths`
 -- has how many bytes each disk has, by its number.
@@ -66,12 +66,26 @@ pub record IsLaidOut {D : Type 0} (seats : List (Seated D)) (spares : List (Opti
   pub taken : (n : ℕ) → Among (numbers seats) n → slice_get spares n ≡ Some None
   pub left : (n : ℕ) → slice_get spares n ≡ Some None → Among (numbers seats) n
 
+-- the volumes at these places lie on the disks of these numbers
+abbrev pub LieOn : List Placed → List ℕ → Type 0
+LieOn places disks = (i : ℕ) (p : Placed) (disk : ℕ) → slice_get places i ≡ Some p → slice_get disks i ≡ Some disk → p.disk.0 ≡ disk
+
+-- each disk is as long as the node has it
+pub record AreAsLong {D : Type 0} (state : D → DiskState) (n : Node D) : Type 0 where
+  pub root : slice_get n.lengths 0 ≡ Some (state n.root.disk).size
+  pub seats : (i : ℕ) (s : Seated D) → slice_get n.seats i ≡ Some s → slice_get n.lengths s.disk ≡ Some (state (device s)).size
+  pub spares : (k : ℕ) (x : D) → slice_get n.spares k ≡ Some (Some x) → slice_get n.lengths k ≡ Some (state x).size
+
 pub record IsNode {D : Type 0} (state : D → DiskState) (n : Node D) : Type 0 where
   -- a volume behind those of the catalogue is that of a creation whose commit failed
   pub as_many : length n.root.held.volumes ≤ length n.seats
   pub few : length n.seats ≤ MOST_VOLUMES
   pub seated : AreAtSeats state n.seats
   pub laid_out : IsLaidOut n.seats n.spares n.lengths
+  -- also by a catalogue whose commit has an outcome that is not known
+  pub placed : LieOn n.root.held.volumes (map disk_number n.seats)
+  pub placed_after : (k : Catalog) → n.root.after ≡ Some k → LieOn k.volumes (map disk_number n.seats)
+  pub long : AreAsLong state n
 
 -- no call has failed since the node was opened or restarted
 pub record IsUp {D : Type 0} (n : Node D) : Type 0 where

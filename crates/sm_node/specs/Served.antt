@@ -10,7 +10,7 @@ use Rattle.sm_node.specs.declared.fault.NodeFault.TheVariants.{NoMemory as OutOf
 
 -- so far
 abbrev pub IsServed : the_event.Event → Type 0
-IsServed (events.CreateVolume path disk kind logical physical) = ⊥
+IsServed (events.CreateVolume path disk kind logical physical) = Unit {0}
 IsServed events.ShowVolumes = Unit {0}
 IsServed (events.Write path block fill) = Unit {0}
 IsServed (events.Snap path name label) = Unit {0}
@@ -44,6 +44,7 @@ IsServed (events.RelationLine relation) = Unit {0}
 abbrev pub IsSpared : Option (List ℕ) → Option (List ℕ) → the_reply.Reply → Type 0
 IsSpared path name replies.Done = Unit {0}
 IsSpared path name (replies.Snapped ident) = Unit {0}
+IsSpared path name (replies.Created volume) = Unit {0}
 IsSpared path name (replies.Refused (refusals.NoVolume refused)) = path ≡ Some refused
 IsSpared path name (replies.Refused (refusals.NoSnapshot refused)) = name ≡ Some refused
 IsSpared path name (replies.Refused (refusals.Held relation)) = Unit {0}
@@ -53,6 +54,10 @@ IsSpared path name (replies.Refused refusals.ReadOnly) = Unit {0}
 IsSpared path name (replies.Refused refusals.BadBlock) = Unit {0}
 IsSpared path name (replies.Refused refusals.NoSpace) = Unit {0}
 IsSpared path name (replies.Refused refusals.SnapFull) = Unit {0}
+IsSpared path name (replies.Refused (refusals.NoDisk disk)) = Unit {0}
+IsSpared path name (replies.Refused refusals.DiskTaken) = Unit {0}
+IsSpared path name (replies.Refused (refusals.Full what)) = Unit {0}
+IsSpared path name (replies.Refused (refusals.DiskSmall need len)) = Unit {0}
 IsSpared path name _ = ⊥
 
 -- or it is a block in a box, for which there is another

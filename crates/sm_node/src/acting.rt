@@ -5,7 +5,7 @@ ghost use Rattle.sm_model.specs.Answer.{answer};
 ghost use Rattle.sm_model.specs.Answers.{Answer};
 ghost use Rattle.sm_model.specs.OfPolicies as policies;
 ghost use Rattle.sm_model.specs.OfVolumes as volumes;
-ghost use Rattle.sm_model.specs.InRange.{IsGiven, IsThere};
+ghost use Rattle.sm_model.specs.InRange.{IsCreation, IsGiven, IsThere};
 ghost use Rattle.sm_model.specs.Sound.{SoundUp};
 ghost use Rattle.sm_model.specs.Telling.{told_by};
 ghost use Rattle.sm_shape.specs.Blanked.{blanked};
@@ -17,7 +17,7 @@ ghost use Rattle.sm_node.specs.Snapping.{IdentsAreNew};
 use crate::fault::NodeFault;
 use crate::node::Node;
 use crate::telling::copied;
-use sm_base::{Label, Path, Refusal, SnapName};
+use sm_base::{DiskNo, Kind, Label, Path, Refusal, SnapName};
 use sm_disk::Disk;
 use sm_model::{Event, Reply};
 use std::alloc::Global;
@@ -50,6 +50,13 @@ fn refused_twice(refusal: Refusal, path: Option<Path>, name: Option<SnapName>) -
         Refusal::BadBlock => (Refusal::BadBlock, Refusal::BadBlock),
         Refusal::NoSpace => (Refusal::NoSpace, Refusal::NoSpace),
         Refusal::SnapFull => (Refusal::SnapFull, Refusal::SnapFull),
+        Refusal::NoDisk { disk } => (Refusal::NoDisk { disk }, Refusal::NoDisk { disk }),
+        Refusal::DiskTaken => (Refusal::DiskTaken, Refusal::DiskTaken),
+        Refusal::Full { what } => (Refusal::Full { what }, Refusal::Full { what }),
+        Refusal::DiskSmall { need, len } => (
+            Refusal::DiskSmall { need, len },
+            Refusal::DiskSmall { need, len },
+        ),
         _ => unreachable!(),
     }
 }
@@ -64,6 +71,7 @@ pub fn twice(reply: Reply, path: Option<Path>, name: Option<SnapName>) -> (Reply
     match reply {
         Reply::Done => (Reply::Done, Reply::Done),
         Reply::Snapped { ident } => (Reply::Snapped { ident }, Reply::Snapped { ident }),
+        Reply::Created { volume } => (Reply::Created { volume }, Reply::Created { volume }),
         Reply::Refused(refusal) => {
             let (first, second) = refused_twice(refusal, path, name);
             (Reply::Refused(first), Reply::Refused(second))
@@ -81,6 +89,28 @@ impl<D: Disk + Drop> Node<D> {
         ensures twice { IfOk result (λ replies. told_by replies.1 ≡ told_by replies.0) }
     {
         match self.set_clock(alloc, time) {
+            Ok(reply) => Ok(twice(reply, None, None)),
+            Err(fault) => Err(fault),
+        }
+    }
+
+    // A volume is made.
+    fn create_event(
+        &mut self,
+        alloc: Global,
+        path: &Path,
+        disk: DiskNo,
+        kind: Kind,
+        logical: u32,
+        physical: u32,
+    ) -> Result<(Reply, Reply), NodeFault>
+        requires up { IsUp self.old }
+        requires given { IsCreation path.now disk.0 logical physical }
+
+        ensures acts { Acts D.state (volumes.create_volume (world_of self.old) path.now disk kind logical physical) self.old (first_of result) self.new }
+        ensures twice { IfOk result (λ replies. told_by replies.1 ≡ told_by replies.0) }
+    {
+        match self.create(alloc, path, disk, kind, logical, physical) {
             Ok(reply) => Ok(twice(reply, None, None)),
             Err(fault) => Err(fault),
         }
@@ -185,6 +215,13 @@ impl<D: Disk + Drop> Node<D> {
     {
         self.told_up();
         match event {
+            Event::CreateVolume {
+                path,
+                disk,
+                kind,
+                logical,
+                physical,
+            } => self.create_event(alloc, path, *disk, *kind, *logical, *physical),
             Event::Clock { time } => self.clock_event(alloc, *time),
             Event::Cp { path } => self.cp_event(alloc, path),
             Event::Write { path, block, fill } => self.write_event(alloc, path, *block, *fill),
@@ -199,8 +236,7 @@ impl<D: Disk + Drop> Node<D> {
             Event::RelationLine { relation } => {
                 copied(alloc, self.report_relation(alloc, *relation))
             }
-            Event::CreateVolume { .. }
-            | Event::CreatePolicy { .. }
+            Event::CreatePolicy { .. }
             | Event::AddRule { .. }
             | Event::ShowPolicies
             | Event::Relate { .. }

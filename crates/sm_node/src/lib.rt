@@ -7,6 +7,7 @@ mod calls;
 mod clock;
 mod committing;
 mod crash;
+mod creating;
 mod digesting;
 mod fault;
 mod handing;

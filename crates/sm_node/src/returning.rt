@@ -3,7 +3,6 @@ ghost use Rattle.std.specs.Prelude.{◌≡◌, ◌<◌, ◌≤◌, suc, length, 
 ghost use Rattle.sm_model.specs.World.{Deed};
 ghost use Rattle.sm_node.specs.Pending.{NothingPending, IsLong};
 ghost use Rattle.sm_node.specs.Halved.{IsHalved};
-ghost use Rattle.sm_node.specs.Lengths.{AreAsLong};
 ghost use Rattle.sm_node.specs.Counted.{CountsStay, CountRises};
 ghost use Rattle.sm_node.specs.Returning.{Returns, StaysDown};
 ghost use Rattle.sm_node.specs.Turning.{NodeTurns, AllAreBack, SeatFailed, TakesLast, IsTrimmed};
@@ -73,7 +72,6 @@ impl<D: Disk + Drop> Node<D> {
         ensures returns { OnOk result ((d : Deed) → IsHalved D.state d side.old self.old → Returns D.state d self.old self.new side.new) }
         ensures stays { OnErr result ((d : Deed) → IsHalved D.state d side.old self.old → StaysDown D.state d self.old self.new side.new) }
         ensures side { NothingPending self.old → side.new ≡ side.old }
-        ensures lengths { AreAsLong D.state self.old → AreAsLong D.state self.new }
         ensures failed { IfErr result (λ e. SeatFailed D.state self.old e.0 e.1 self.new) }
         ensures counts { CountsStay D.state self.old self.new }
         ensures rises { IfErr result (λ e. CountRises D.state e.0 e.1 self.old self.new) }

@@ -11,6 +11,14 @@ pub clock_event-requires-clause-given : goal.clock_event-requires-clause-given
 unfolding IsGiven
 clock_event-requires-clause-given g c = subst IsGiven c.in-Clock.is c.requires.given
 
+pub create_event-requires-clause-given : goal.create_event-requires-clause-given
+unfolding IsGiven
+create_event-requires-clause-given g c = subst IsGiven c.in-CreateVolume.is c.requires.given
+
+pub returns-in-CreateVolume-clause-acts : goal.returns-in-CreateVolume-clause-acts
+unfolding answer
+returns-in-CreateVolume-clause-acts g c = (_, ap (answer (world_of c.args.self.now)) c.in-CreateVolume.is, c.create_event.ensures.acts)
+
 pub returns-in-Clock-clause-acts : goal.returns-in-Clock-clause-acts
 unfolding answer
 returns-in-Clock-clause-acts g c = (_, ap (answer (world_of c.args.self.now)) c.in-Clock.is, c.clock_event.ensures.acts)

@@ -1,6 +1,5 @@
 use Rattle.sm_node.specs.Turning.{RestartsAll}
 use Rattle.sm_node.proofs.NodeTurning.{node_turned, long_turned}
-use Rattle.sm_node.proofs.LongTurning.{long_through, long_trimmed}
 use Rattle.sm_node.proofs.Counting.{counts_through, keeps_through, counts_trimmed, seat_rises}
 use Rattle.sm_node.proofs.Returned.{returns_by, stays_down, side_stays}
 use Rattle.sm_node.proofs.node.Node.restart.Goals as goal
@@ -16,7 +15,6 @@ returns-in-Err g c =
       returns = tt;
       stays = λ d half. stays_down state old new s t c.restart_disks.ensures.turns c.told.ensures.node d half;
       side = λ nothing. side_stays state old new s t c.restart_disks.ensures.turns nothing;
-      lengths = λ long. long_through state old new s t c.restart_disks.ensures.turns long;
       failed = c.in-Err.ensures.failed;
       counts = counts_through state old new s t c.restart_disks.ensures.turns;
       rises = seat_rises state old new (node_turned state old new s t c.restart_disks.ensures.turns c.requires.long c.told.ensures.node).laid_out
@@ -38,7 +36,6 @@ returns g c =
       returns = λ d half. returns_by state old new s t all c.told.ensures.node c.told-2.ensures.root d half;
       stays = tt;
       side = λ nothing. side_stays state old c.restart_disks.new.self s t c.restart_disks.ensures.turns nothing;
-      lengths = λ long. long_trimmed state c.trim.ensures (node_turned state old c.restart_disks.new.self s t c.restart_disks.ensures.turns c.requires.long c.told.ensures.node) (long_through state old c.restart_disks.new.self s t c.restart_disks.ensures.turns long);
       failed = tt;
       counts = λ counts has. counts_trimmed state c.trim.ensures (node_turned state old c.restart_disks.new.self s t c.restart_disks.ensures.turns c.requires.long c.told.ensures.node) counts
           (counts_through state old c.restart_disks.new.self s t c.restart_disks.ensures.turns counts has);

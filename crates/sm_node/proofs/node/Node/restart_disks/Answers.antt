@@ -24,6 +24,15 @@ returns-in-Err-clause-failed g c =
     subst (λ (x : Node _). SeatFailed state x (record { 0 = 0 }) c.faults.result (record n { root = c.restart.new.self })) c.self.view_is
     (root_failed state n c.restart.new.self c.restart.result c.in-Err.field-0 c.faults.result c.in-Err.is c.restart.ensures c.faults.ensures)
 
+pub invariant_of-self : goal.invariant_of-self
+invariant_of-self g c =
+    let state = g.D.Disk.state in
+    let n : Node _ = record { root = c.self.inside.register; seats = c.self.inside.seats.items; spares = c.self.inside.spares.items; lengths = c.self.inside.lengths.items } in
+    let long = subst (λ (x : Node _). IsLong x) (sym c.self.view_is) c.requires.long in
+    let s = c.args.side.now in
+    let turns = stuck state n c.restart.new.self s (turned_err state n.root c.restart.new.self c.restart.result c.in-Err.field-0 c.in-Err.is c.restart.ensures) in
+    (node_turned state n (record n { root = c.restart.new.self }) s s turns long c.self.invariant.0, c.self.invariant.1, c.self.invariant.2)
+
 pub invariant_of-self-in-Err-restart_seats : goal.invariant_of-self-in-Err-restart_seats
 invariant_of-self-in-Err-restart_seats g c =
     let state = g.D.Disk.state in
