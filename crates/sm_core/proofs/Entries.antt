@@ -4,7 +4,6 @@ use Rattle.sm_base.specs.declared.numbers.DiskNo.{DiskNo}
 use Rattle.sm_base.specs.declared.numbers.Side.{Side}
 use Rattle.sm_base.specs.declared.numbers.Side.TheVariants.{Before}
 use Rattle.sm_disk.specs.Disk.{DiskState}
-use Rattle.sm_seats.specs.Seats.{GoesWhole}
 use Rattle.sm_defs.specs.World.{Up}
 use Rattle.sm_model.specs.declared.event.Event.{Event}
 use Rattle.sm_model.specs.declared.event.Event.TheVariants as events
@@ -28,8 +27,7 @@ use Rattle.sm_node.specs.Nodes.{Node, world_of, IsNode}
 use Rattle.sm_node.specs.Halved.{IsHalved}
 use Rattle.sm_node.proofs.Falls.{fails_halved}
 use Rattle.sm_model.proofs.Refused.{refused_quiet}
-use Rattle.sm_node.specs.Parts.{devices, part}
-use Rattle.sm_node.specs.Acts.{Acts, IsAnswered, reached_of}
+use Rattle.sm_node.specs.Acts.{Acts, GoesThrough, IsAnswered, reached_of}
 use Rattle.sm_core.specs.Deeds.{boxed, reply_of, deed_to, deed_by, deed_of, next_of}
 use Rattle.sm_core.specs.Falling.{deed_now, world_now, kept_of, IsSoundPair}
 use Rattle.sm_core.specs.Doing.{Leads, GoesAcross, DoesOne}
@@ -72,10 +70,9 @@ deed_is w actor e reached says = ap (deed_by w actor e) says
 deed_same : {D : Type 0} (x : Down D) (n : Node D) (actor : ℕ) (e : Event) → x.actor ≡ actor → x.event.value ≡ e → x.node.value ≡ n → deed_now x ≡ deed_of (world_of n) actor e
 deed_same x n actor e actor_is event_is node_is = rw (actor_is, event_is, node_is) refl
 
-across : {D : Type 0} (state : D → DiskState) (e : Event) (n n' : Node D) (a : Answer) → answer (world_of n) e ≡ Some a → (commits : ℕ)
-    → GoesWhole state commits (part (world_of n)) (part (reached_of (world_of n) a)) (devices n) (devices n') → GoesAcross state (up (world_of n)) e n n'
-across state e n n' a says commits whole =
-    (commits, subst (λ (o : Option Answer). GoesWhole state commits (part (world_of n)) (part (next_of (world_of n) o)) (devices n) (devices n')) (sym says) whole)
+across : {D : Type 0} (state : D → DiskState) (e : Event) (n n' : Node D) (a : Answer) → answer (world_of n) e ≡ Some a
+    → GoesThrough state (world_of n) (reached_of (world_of n) a) n n' → GoesAcross state (up (world_of n)) e n n'
+across state e n n' a says whole = subst (λ (o : Option Answer). GoesThrough state (world_of n) (next_of (world_of n) o) n n') (sym says) whole
 
 -- ---- one event
 
@@ -88,7 +85,7 @@ pub one_done : {D : Type 0} (state : D → DiskState) → BlankedStaysSound → 
     → (a : Answer) → answer (world_of n) e ≡ Some a → (reply : Reply) → Acts state a n (Ok reply) n' → DoesOne state actor e reply None n None n'
 one_done state stays actor e n n' given sound a says reply acts = record {
   leads = λ told line. fits_by (world_of n) (entry actor line e reply) a says (world_of n') (acts.answered told);
-  across = across state e n n' a says acts.whole.0 acts.whole.1;
+  across = across state e n n' a says acts.whole;
   said = (a, says, inl acts.without_bytes.0);
   stands = acts.up;
   sound = subst SoundUp (sym acts.without_bytes.1) (reached_sound stays (world_of n) e given sound a says);
@@ -106,7 +103,7 @@ one_failed state stays actor e n n' given sound disk count x disk_is actor_is ev
     let world : world_now (Some x) n' ≡ down disk.0 d = ap (λ (k : DiskNo). down k.0 (deed_now x)) disk_is ∙ ap (down disk.0) now in
     record {
       leads = λ told line. subst (λ (w : World). Leads (up (world_of n)) (entry actor line e (fault disk count)) w) (sym world) (failed_leads (world_of n) actor line e reached says disk count);
-      across = across state e n n' (Ok reached) says acts.whole.0 acts.whole.1;
+      across = across state e n n' (Ok reached) says acts.whole;
       said = (Ok reached, says, inr (record { disk = disk; count = count; allowed = tt; is = refl; failed = fails.failed }));
       stands = subst (λ (s : Side). IsHalved state (deed_now x) s n') (sym side_is)
           (subst (λ (y : Deed). IsHalved state y Before n') (sym now) (fails_halved state (Ok reached) disk count n n' fails root node d refl refl));

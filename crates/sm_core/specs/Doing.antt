@@ -1,10 +1,10 @@
 -- What one event makes of a catalogue.
-use Rattle.std.specs.Prelude.{◌≡◌, ◌⊎◌, ℕ, List, [], ◌∷◌, ◌++◌, Option, Some}
+use Rattle.std.specs.Prelude.{◌≡◌, ◌⊎◌, ◌<◌, ℕ, List, [], ◌∷◌, ◌++◌, length, Option, Some}
+use Rattle.sm_base.specs.declared.limits.TheConstants.{MOST_ENTRIES}
 use Rattle.sm_base.specs.declared.numbers.DiskNo.{DiskNo}
 use Rattle.sm_base.specs.declared.numbers.Side.{Side}
 use Rattle.sm_disk.specs.Disk.{DiskState}
 use Rattle.sm_defs.specs.World.{Up}
-use Rattle.sm_seats.specs.Seats.{GoesWhole}
 use Rattle.sm_model.specs.declared.event.Event.{Event}
 use Rattle.sm_model.specs.declared.reply.Entry.{Entry}
 use Rattle.sm_model.specs.declared.reply.Reply.{Reply}
@@ -15,9 +15,9 @@ use Rattle.sm_model.specs.Telling.{told_by}
 use Rattle.sm_model.specs.World.{World, up, down, Deed}
 use Rattle.sm_history.specs.Acts.{entry}
 use Rattle.sm_node.specs.Nodes.{Node}
-use Rattle.sm_node.specs.Parts.{devices, part, AllTold}
+use Rattle.sm_node.specs.Parts.{AllTold}
 use Rattle.sm_node.specs.ButBytes.{IsRepliedButBytes}
-use Rattle.sm_node.specs.Acts.{IsAllowed, HasFailed}
+use Rattle.sm_node.specs.Acts.{IsAllowed, DiskHasFailed, GoesThrough}
 use Rattle.sm_node.specs.Served.{IsServed}
 use Rattle.sm_core.specs.Deeds.{next_of}
 use Rattle.sm_core.specs.Kept.{Kept}
@@ -39,7 +39,7 @@ pub record IsFailure {D : Type 0} (state : D → DiskState) (w : Up) (a : Answer
   pub count : ℕ
   pub allowed : IsAllowed a
   pub is : reply ≡ fault disk count
-  pub failed : HasFailed state w disk count (devices old) (devices new)
+  pub failed : DiskHasFailed state w disk count old new
 
 module _ {D : Type 0} (state : D → DiskState) where
   -- What is answered, whether the disks tell their content or not: what the definitions say, but for the bytes of a read
@@ -50,7 +50,7 @@ module _ {D : Type 0} (state : D → DiskState) where
 
   -- The crash clause of an event. A node that is down is left alone.
   abbrev pub GoesAcross : World → Event → Node D → Node D → Type 0
-  GoesAcross (up w) e old new = (commits : ℕ) × GoesWhole state commits (part w) (part (next_of w (answer w e))) (devices old) (devices new)
+  GoesAcross (up w) e old new = GoesThrough state w (next_of w (answer w e)) old new
   GoesAcross (down disk d) e old new = new ≡ old
 
   -- what one event makes of the fields
@@ -61,10 +61,11 @@ module _ {D : Type 0} (state : D → DiskState) where
     pub stands : IsCatalogue state since' new
     pub sound : IsSoundNow since' new
 
-  -- One entry is added, whose reply tells what was answered. Where the disks tell their content it leads to the next world.
+  -- One entry is added, for which there was room, whose reply tells what was answered. Where the disks tell their content it leads to the next world.
   pub record ActsOnce (old : Kept D) (actor line : ℕ) (e : Event) (reply : Reply) (new : Kept D) : Type 0 where
     pub kept : Reply
     pub tells : told_by kept ≡ told_by reply
+    pub room : length old.history < MOST_ENTRIES
     pub grown : new.history ≡ old.history ++ entry actor line e kept ∷ []
     pub sides : new.sides ≡ old.sides
     pub leads : AllTold state old.node.seats → Leads old.world (entry actor line e kept) new.world

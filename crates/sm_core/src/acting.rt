@@ -114,6 +114,7 @@ pub fn keep(
     ensures starved { OnErr result ((e : _) × (replies ≡ Err e) × (history.new ≡ history.old)) }
     ensures fault { OnErr result (result ≡ Err OutOfMemory) }
     ensures limit { history.new.limit ≡ history.old.limit }
+    ensures room { HasPlace history.old }
 {
     match replies {
         Ok((kept, reply)) => {

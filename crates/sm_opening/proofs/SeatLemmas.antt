@@ -10,7 +10,8 @@ use Rattle.std.proofs.lemmas.Option.{same_Some, none-some, slice_get_within, sli
 use Rattle.sm_base.specs.declared.limits.TheConstants.{MOST_VOLUMES}
 use Rattle.sm_defs.specs.Words.{Among, KeysDiffer}
 use Rattle.sm_defs.proofs.Members.{from_map, among_place, get_among, any_among, among_any, among_map, each_among}
-use Rattle.sm_seats.proofs.Lists.{some_at, last_or}
+use Rattle.sm_seats.proofs.Lists.{some_at, one_value, last_or}
+use Rattle.sm_node.proofs.Lists.{mapped_at, mapped_to}
 use Rattle.sm_disk.specs.Disk.{DiskState, IsSynced}
 use Rattle.sm_register.specs.Opened.{FoundValue}
 use Rattle.sm_register.specs.Registered.{Registered, registered}
@@ -19,7 +20,7 @@ use Rattle.sm_catroot.specs.Catalog.{Catalog}
 use Rattle.volume_store.specs.Opened.{FoundMaps}
 use Rattle.sm_volume.specs.Kept.{IsKept}
 use Rattle.sm_node.specs.Seats.{Seated, disk_number, device, AreAtSeats, IsAtSeat}
-use Rattle.sm_node.specs.Nodes.{IsNode, IsLaidOut, numbers}
+use Rattle.sm_node.specs.Nodes.{IsNode, IsLaidOut, LieOn, numbers}
 use Rattle.sm_opening.specs.Looked.{size_of}
 use Rattle.sm_opening.specs.Finding.{LieApart, AreVolumesFound}
 use Rattle.sm_opening.specs.Syncing.{AreSynced}
@@ -286,12 +287,43 @@ module _ {D : Type 0} (state : D → DiskState) (ds : List D) where
         volumes_are : r.held.volumes ≡ ps
         volumes_are = ap (λ (q : Registered D Catalog). q.held.volumes) is_root ∙ is_ps
 
+        lie_as_placed : LieOn r.held.volumes (map disk_number seats)
+        lie_as_placed = λ i p disk e f.
+            let s = mapped_at disk_number seats i disk f in
+            let (q, lt, at_q, same) = placed_at i s.0 s.1 in
+            let is_p : q ≡ p = one_value (slice_get ps i) q p at_q (ap (λ (l : List Placed). slice_get l i) (sym volumes_are) ∙ e) in
+            ap (λ (x : Placed). x.disk.0) (sym is_p) ∙ sym same ∙ s.2
+
+        long_at : (m : ℕ) (d : D) → slice_get ds m ≡ Some d → slice_get lengths m ≡ Some (state d).size
+        long_at m d e = ap (λ (l : List ℕ). slice_get l m) sizes ∙ mapped_to (size_of state) ds m d e
+
+        seat_long : (i : ℕ) (s : Seated D) → slice_get seats i ≡ Some s → slice_get lengths s.disk ≡ Some (state (device s)).size
+        seat_long i s e =
+            let (p, lt, at_p, same) = placed_at i s e in
+            let (f, at_f) = some_at fs i lt in
+            ap (λ (m : ℕ). slice_get lengths m) same ∙ long_at p.disk.0 (device s) (seat_of i p f s at_p at_f e).device
+
+        -- a disk that is at hand is the one of its number
+        spare_is : (m : ℕ) (x : D) → slice_get news m ≡ Some (Some x) → slice_get ds m ≡ Some x
+        spare_is m x e =
+            let y = some_at ds m (let lt = slice_get_within news m (Some x) e in let long = news_length in omega (arith, lt, long)) in
+            let not_used : (j : ℕ) → Among (numbers seats) j → ¬ (m ≡ j) = λ j a same. (let none = taken r.disk first j a in let bad : Some (Some x) ≡ Some None = sym e ∙ ap (λ (i : ℕ). slice_get news i) same ∙ none in absurd (cc)) in
+            let there = spare_at m y.0 y.1 (not_used 0 (inl refl)) (λ j p at_p same. not_used p.disk.0 (inr (seat_at j p at_p)) (sym same)) in
+            y.1 ∙ ap (λ (z : D). Some z) (same_Some y.0 x (same_Some (Some y.0) (Some x) (sym there ∙ e)))
+
         pub is_node : length ps ≤ MOST_VOLUMES → IsNode state (record { root = r; seats = seats; spares = news; lengths = lengths })
         is_node few = record {
           as_many = (let many = seated.as_many in let same = ap length volumes_are in omega (arith, many, same, as_many));
           few = (let many = seated.as_many in omega (arith, many, as_many, few));
           seated = seated.kept;
           laid_out = laid_out r.disk first lengths sizes;
+          placed = lie_as_placed;
+          placed_after = λ j e. absurd (let bad : None ≡ Some j = sym (ap (λ (q : Registered D Catalog). q.after) is_root) ∙ e in cc);
+          long = record {
+            root = long_at 0 r.disk first;
+            seats = seat_long;
+            spares = λ m x e. long_at m x (spare_is m x e);
+          };
         }
 
         pub is_made : IsMadeOf state ds lengths k fs (record { root = r; seats = seats; spares = news; lengths = lengths })

@@ -1,4 +1,5 @@
-use Rattle.std.proofs.Common.{List, [], ◌∷◌, ◌++◌, sym, ap, ◌∙◌, subst}
+use Rattle.std.proofs.Common.{ℕ, ◌<◌, List, [], ◌∷◌, ◌++◌, length, sym, ap, ◌∙◌, subst}
+use Rattle.sm_base.specs.declared.limits.TheConstants.{MOST_ENTRIES}
 use Rattle.std.proofs.lemmas.Result.{IfOk-weaker, IfOk-at_ok, IfErr-at_err, on_err_weaker}
 use Rattle.sm_model.specs.declared.reply.Entry.{Entry}
 use Rattle.sm_history.specs.Log.{Log}
@@ -22,6 +23,9 @@ returns-clause-one g c =
     record {
       kept = h.0;
       tells = twice;
+      room = subst (λ (k : Kept _). length k.history < MOST_ENTRIES) old
+          (subst (λ (es : List Entry). length es < MOST_ENTRIES) c.reserve.ensures.entries
+          (subst (λ (n : ℕ). length c.reserve.new.self.entries < n) (c.reserve.ensures.limit ∙ c.self.invariant.limit) c.keep.ensures.room.below));
       grown = h.2 ∙ ap (λ (es : List Entry). es ++ entry c.args.actor c.args.line e h.0 ∷ []) (c.reserve.ensures.entries ∙ ap (λ (k : Kept _). k.history) old);
       sides = ap (λ (k : Kept _). k.sides) old;
       leads = λ told. subst (λ (k : Kept _). Leads k.world (entry c.args.actor c.args.line e h.0) (world_now new.down new.node)) old
