@@ -1,0 +1,4 @@
+mod Replies
+mod Coming
+mod Commands
+mod Scripted
