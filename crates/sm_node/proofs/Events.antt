@@ -1,6 +1,6 @@
 -- Events, each from the calls that it makes.
-use Rattle.std.proofs.Common.{◌≡◌, ℕ, ◌<◌, ◌≤◌, List, length, sym, ap, ◌∙◌, subst, Option, Some, Ok, Err, Result, arith}
-use Rattle.std.specs.Prelude.{slice_get, slice_set, replicate, min}
+use Rattle.std.proofs.Common.{◌≡◌, ℕ, ◌<◌, ◌≤◌, List, length, refl, sym, ap, ◌∙◌, subst, Option, Some, Ok, Err, Result, arith}
+use Rattle.std.specs.Prelude.{slice_get, slice_set, replicate, min, IfOk}
 use Rattle.std.proofs.lemmas.Option.{slice_get_within}
 use Rattle.sm_defs.specs.Words.{Found}
 use Rattle.sm_defs.specs.Volume.{Volume}
@@ -49,6 +49,19 @@ module _ {D : Type 0} (state : D → DiskState) (n : Node D) (h : StandsUp state
       subst (λ (b : Answer). Acts state b n (Ok reply) n) (sym refuses)
       (subst (λ (r : Reply). Acts state (Err g) n (Ok r) n) (sym is_reply) (refused state n h g))
 
+-- a commit is answered so, or not at all
+pub replied_by : (reply : Reply) (count : ℕ) (r : Result (Unit {0}) Failed) (R : Result Reply NodeFault) → R ≡ commit_answer reply count r → IfOk R (λ x. x ≡ reply)
+replied_by reply count (Ok done) R is = subst (λ (o : Result Reply NodeFault). IfOk o (λ x. x ≡ reply)) (sym is) refl
+replied_by reply count (Err fault) R is = subst (λ (o : Result Reply NodeFault). IfOk o (λ x. x ≡ reply)) (sym is) tt
+
+-- the clock is set by a commit
+pub clock_acts : {D : Type 0} (state : D → DiskState) (now new : Node D) (next : Catalog) (time : ℕ) → now.root.held.clock ≤ time → next ≡ record now.root.held { clock = time } → (R : Result Reply NodeFault)
+    → Acts state (Ok (record { reply = told replies.Done; world = world_with next now.seats now.lengths })) now R new → Acts state (policies.set_clock (world_of now) time) now R new
+clock_acts state now new next time on is R did = subst (λ (a : Answer). Acts state a now R new) (sym reached) did
+  where
+    reached : policies.set_clock (world_of now) time ≡ Ok (record { reply = told replies.Done; world = world_with next now.seats now.lengths })
+    reached = clock_goes (world_of now) time on ∙ sym (ap (λ (k : Catalog). let a : Answer = Ok (record { reply = told replies.Done; world = world_with k now.seats now.lengths }) in a) is)
+
 -- the node's parts have moved
 module _ {D : Type 0} (state : D → DiskState) (n now : Node D) (view : n ≡ now) (h : StandsUp state now) where
   pub here : StandsUp state n
@@ -60,24 +73,18 @@ module _ {D : Type 0} (state : D → DiskState) (n now : Node D) (view : n ≡ n
   seats_here : now.seats ≡ n.seats
   seats_here = sym (ap (λ (x : Node D). x.seats) view)
 
-  -- the clock is set
-  module _ (root : Registered D Catalog) (next : Catalog) (time : ℕ) (on : now.root.held.clock ≤ time) (is : next ≡ record now.root.held { clock = time })
-      (R : Result Reply NodeFault) (did : (r : Result (Unit {0}) Failed) × (R ≡ commit_answer replies.Done (state root.disk).faults r) × Commits state ShowsCatalog n.root next r root) where
-    is_here : next ≡ record n.root.held { clock = time }
-    is_here = subst (λ (x : Node D). let k : Catalog = record x.root.held { clock = time } in next ≡ k) (sym view) is
+  -- the catalogue is committed
+  module _ (root : Registered D Catalog) (next : Catalog) (places : next.volumes ≡ now.root.held.volumes) (reply : Reply)
+      (R : Result Reply NodeFault) (did : (r : Result (Unit {0}) Failed) × (R ≡ commit_answer reply (state root.disk).faults r) × Commits state ShowsCatalog n.root next r root) where
+    places_here : next.volumes ≡ n.root.held.volumes
+    places_here = subst (λ (x : Node D). next.volumes ≡ x.root.held.volumes) (sym view) places
 
-    on_here : n.root.held.clock ≤ time
-    on_here = subst (λ (x : Node D). x.root.held.clock ≤ time) (sym view) on
+    pub committed_acts : Acts state (Ok (record { reply = told reply; world = world_with next now.seats now.lengths })) now R (record n { root = root })
+    committed_acts = subst (λ (x : Node D). Acts state (Ok (record { reply = told reply; world = world_with next x.seats x.lengths })) x R (record n { root = root })) view
+        (catalog_acts state n here root next places_here reply _ refl R did)
 
-    reached : policies.set_clock (world_of n) time ≡ Ok (record { reply = told replies.Done; world = world_with next n.seats n.lengths })
-    reached = clock_goes (world_of n) time on_here ∙ sym (ap (λ (k : Catalog). let a : Answer = Ok (record { reply = told replies.Done; world = world_with k n.seats n.lengths }) in a) is_here)
-
-    pub clock_acts : Acts state (policies.set_clock (world_of now) time) now R (record n { root = root })
-    clock_acts = moved_acts (λ w. policies.set_clock w time) R (record n { root = root })
-        (catalog_acts state n here root next (ap (λ (k : Catalog). k.volumes) is_here) replies.Done (policies.set_clock (world_of n) time) reached R did)
-
-    pub clock_keeps : IsNode state (record n { root = root })
-    clock_keeps = catalog_keeps state n here root next (ap (λ (k : Catalog). k.volumes) is_here) replies.Done R did
+    pub committed_keeps : IsNode state (record n { root = root })
+    committed_keeps = catalog_keeps state n here root next places_here reply R did
 
   -- ---- the volume of a path is called
 

@@ -46,7 +46,7 @@ pub mod KeptLemmas
 pub mod ReadLemmas
 pub mod SnapEvents
 pub mod ReadEvents
-mod LookActs
+pub mod LookActs
 pub mod CreateTests
 pub mod CreateLemmas
 pub mod Created

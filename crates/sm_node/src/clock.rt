@@ -6,7 +6,6 @@ ghost use Rattle.sm_model.specs.OfPolicies as policies;
 ghost use Rattle.sm_node.specs.Nodes.{world_of, IsUp};
 ghost use Rattle.sm_node.specs.Acts.{Acts};
 
-use crate::committing::commit_as;
 use crate::fault::NodeFault;
 use crate::node::Node;
 use sm_base::{NoMemory, Refusal};
@@ -52,6 +51,6 @@ impl<D: Disk + Drop> Node<D> {
         }
         let next = at_time(alloc, self.catalog(), time)?;
         let ready = Ready::new(alloc, next)?;
-        commit_as(&mut self.register, ready, Reply::Done)
+        self.commit(ready, Reply::Done)
     }
 }

@@ -36,3 +36,4 @@ pub use laws::{falls_are_halved, halved_shows, up_is_halved};
 pub use named::Named;
 pub use node::Node;
 pub use seat::Seat;
+pub use telling::copied;

@@ -3,8 +3,8 @@ use Rattle.std.proofs.lemmas.Result.{err_from_is_err_and}
 use Rattle.sm_base.specs.declared.refusal.Refusal.TheVariants as refusals
 use Rattle.sm_model.specs.OfPolicies as policies
 use Rattle.sm_catroot.specs.Catalog.{Catalog}
-use Rattle.sm_node.specs.Nodes.{Node, world_of}
-use Rattle.sm_node.proofs.Events.{none_acts, none_starved, clock_acts, clock_keeps}
+use Rattle.sm_node.specs.Nodes.{world_of}
+use Rattle.sm_node.proofs.Events.{none_acts, none_starved, clock_acts}
 use Rattle.sm_node.proofs.Clocks.{clock_back}
 use Rattle.sm_node.proofs.node.Node.set_clock.Goals as goal
 
@@ -24,19 +24,8 @@ returns-in_err-ready-clause-acts g c =
     let p = err_from_is_err_and c.from_residual-in_err-ready.result c.from_residual-in_err-ready.ensures.1 in
     none_starved g.D.Disk.state c.args.self.now c.told_up.ensures (policies.set_clock (world_of c.args.self.now) c.args.time) c.from_residual-in_err-ready.result p.0 p.1 p.2
 
-pub invariant_of-self : goal.invariant_of-self
-invariant_of-self g c =
-    let n : Node _ = record { root = c.self.inside.register; seats = c.self.inside.seats.items; spares = c.self.inside.spares.items; lengths = c.self.inside.lengths.items } in
-    let time_is : c.clock_of-now.result ≡ c.args.self.now.root.held.clock = c.clock_of-now.ensures ∙ ap (λ (k : Catalog). k.clock) c.catalog.ensures in
-    let next = c.in_ok-ready.ensures ∙ c.in_ok-next.ensures.is ∙ ap (λ (k : Catalog). let j : Catalog = record k { clock = c.args.time } in j) c.catalog-2.ensures in (
-      clock_keeps g.D.Disk.state n c.args.self.now c.self.view_is c.told_up.ensures c.commit_as.new.register c.in_ok-ready.ready c.args.time (omega (arith, time_is, c.if-time-now.false)) next c.commit_as.result c.commit_as.ensures,
-      c.self.invariant.1,
-      c.self.invariant.2,
-    )
-
 pub returns-clause-acts : goal.returns-clause-acts
 returns-clause-acts g c =
-    let n : Node _ = record { root = c.self.inside.register; seats = c.self.inside.seats.items; spares = c.self.inside.spares.items; lengths = c.self.inside.lengths.items } in
     let time_is : c.clock_of-now.result ≡ c.args.self.now.root.held.clock = c.clock_of-now.ensures ∙ ap (λ (k : Catalog). k.clock) c.catalog.ensures in
     let next = c.in_ok-ready.ensures ∙ c.in_ok-next.ensures.is ∙ ap (λ (k : Catalog). let j : Catalog = record k { clock = c.args.time } in j) c.catalog-2.ensures in
-    clock_acts g.D.Disk.state n c.args.self.now c.self.view_is c.told_up.ensures c.commit_as.new.register c.in_ok-ready.ready c.args.time (omega (arith, time_is, c.if-time-now.false)) next c.commit_as.result c.commit_as.ensures
+    clock_acts g.D.Disk.state c.args.self.now c.commit.new.self c.in_ok-ready.ready c.args.time (omega (arith, time_is, c.if-time-now.false)) next c.commit.result c.commit.ensures.acts
