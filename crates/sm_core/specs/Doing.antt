@@ -18,7 +18,7 @@ use Rattle.sm_node.specs.Nodes.{Node}
 use Rattle.sm_node.specs.Parts.{AllTold}
 use Rattle.sm_node.specs.ButBytes.{IsRepliedButBytes}
 use Rattle.sm_node.specs.Acts.{IsAllowed, DiskHasFailed, GoesThrough}
-use Rattle.sm_node.specs.Served.{IsServed}
+use Rattle.sm_events.specs.Served.{IsServed}
 use Rattle.sm_core.specs.Deeds.{next_of}
 use Rattle.sm_core.specs.Kept.{Kept}
 use Rattle.sm_core.specs.Falling.{world_now, IsCatalogue, IsSoundNow}

@@ -8,7 +8,7 @@ ghost use Rattle.sm_model.specs.InRange.{IsGiven, IsThere};
 ghost use Rattle.sm_model.specs.LegalRun.{IsAsked};
 ghost use Rattle.sm_model.specs.Telling.{told_by};
 ghost use Rattle.sm_node.specs.Nodes.{world_of};
-ghost use Rattle.sm_node.specs.Served.{IsServed};
+ghost use Rattle.sm_events.specs.Served.{IsServed};
 ghost use Rattle.sm_core.specs.Falling.{IsCatalogue, IsSoundNow, world_now};
 ghost use Rattle.sm_core.specs.Doing.{DoesOne, IsServedIn};
 
@@ -45,7 +45,7 @@ fn try_event<D: Disk + Drop>(
     blanked_stays_sound();
     identities_are_new();
     let before = Snapshot::of(&*node);
-    match node.act(alloc, event) {
+    match sm_events::act(alloc, node, event) {
         Ok(replies) => Ok(replies),
         Err(NodeFault::Down { disk, faults }) => {
             node.told();

@@ -18,7 +18,7 @@ use Rattle.sm_grammar.proofs.FollowLemmas.{last_of, first_more, performed, follo
 use Rattle.sm_history.specs.declared.fault.ActFault.{ActFault}
 use Rattle.sm_history.specs.declared.fault.ActFault.TheVariants.{Unchanged, HistoryFull, NoMemory as OutOfMemory}
 use Rattle.sm_history.specs.Acts.{entry}
-use Rattle.sm_node.specs.Served.{IsServed}
+use Rattle.sm_events.specs.Served.{IsServed}
 use Rattle.sm_core.specs.Doing.{IsServedIn}
 use Rattle.sm_core.specs.Faults.{Faults, act_fault, is_work}
 use Rattle.sm_core.specs.Kept.{Kept}

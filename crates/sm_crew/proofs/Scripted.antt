@@ -6,7 +6,7 @@ use Rattle.sm_model.specs.declared.reply.Reply.{Reply}
 use Rattle.sm_grammar.specs.declared.command.Task.{Task}
 use Rattle.sm_grammar.specs.Asked.{IsCommand, IsScripted, AsksScripted}
 use Rattle.sm_grammar.specs.Events.{next_of}
-use Rattle.sm_node.specs.Served.{IsServed}
+use Rattle.sm_events.specs.Served.{IsServed}
 use Rattle.sm_crew.specs.Asked.{IsRunnable}
 
 served : (e : the_event.Event) → IsCommand e → IsServed e
