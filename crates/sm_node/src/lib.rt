@@ -35,5 +35,6 @@ pub use fault::NodeFault;
 pub use laws::{falls_are_halved, halved_shows, up_is_halved};
 pub use named::Named;
 pub use node::Node;
+pub use reporting::relation_line;
 pub use seat::Seat;
 pub use telling::copied;

@@ -77,8 +77,8 @@ fn course(relation: &Relation) -> Option<Course>
     }
 }
 
-// The line of a relationship, whose volumes and policy stand.
-fn relation_line<D: Disk>(
+/// The line of a relationship, whose volumes and policy stand. No device is called.
+pub fn relation_line<D: Disk>(
     alloc: Global,
     catalog: &Catalog,
     seats: &[Seat<D>],
