@@ -22,16 +22,16 @@ use Rattle.sm_fields.specs.Grammar.{AllInTurn}
 use Rattle.sm_model.specs.Answers.{and_then, refused_if, some_or}
 use Rattle.sm_policy.specs.Added.{rule_refusal}
 use Rattle.sm_catroot.specs.Catalog.{Catalog}
-use Rattle.sm_catroot.specs.Condition.{IsCatalog, IsMade, IsAdded, name_of}
+use Rattle.sm_catroot.specs.Condition.{IsCatalog, IsMade, IsAdded, HasFewRules, name_of}
 use Rattle.sm_seats.proofs.Lists.{one_value}
 use Rattle.sm_events.specs.Deciding.{IsNext}
 use Rattle.sm_events.specs.Ruling.{with_new_policy, policy_created, with_policy, rule_added_to, rule_added}
 
 -- ---- a new policy
 
-few_first : (kind : PolicyKind) → length (first_rules kind) ≤ MOST_RULES
-few_first AsyncMirror = omega (arith)
-few_first Vault = omega (arith)
+few_rules : (name : List ℕ) (kind : PolicyKind) → HasFewRules (new_policy name kind)
+few_rules name AsyncMirror = omega (arith)
+few_rules name Vault = omega (arith)
 
 new_is_made : (name : List ℕ) (kind : PolicyKind) → is_part name ≡ true → IsMade (new_policy name kind)
 new_is_made name kind given = record {
@@ -39,7 +39,7 @@ new_is_made name kind given = record {
   rules = [];
   is = ap (λ (rs : List Rule). let p : Policy = record { name = name; kind = kind; rules = rs } in p) (sym (append-nil (first_rules kind)));
   added = tt;
-  few = few_first kind;
+  few = few_rules name kind;
 }
 
 not_both : (b : Bool) → b ≡ true → b ≡ false → ⊥

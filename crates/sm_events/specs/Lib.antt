@@ -1,3 +1,4 @@
 pub mod Deciding
+pub mod Relating
 pub mod Ruling
 pub mod Served

@@ -29,7 +29,8 @@ fn is_name_taken(policies: &[Policy], name: &[u8]) -> bool
     policies.iter().any(|policy| policy.name().text() == name)
 }
 
-fn place_of(policies: &[Policy], name: &[u8]) -> Option<usize>
+/// The place of the first policy of the name.
+pub fn place_of(policies: &[Policy], name: &[u8]) -> Option<usize>
     ensures { result ≡ position (λ p. bytes_eq p.name name.now) policies.now }
 {
     policies
