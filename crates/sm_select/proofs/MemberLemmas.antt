@@ -36,7 +36,7 @@ none_from : (k n : ℕ) → members_from k (replicate n false) ≡ []
 none_from k zero = refl
 none_from k (suc n) = none_from (suc k) n
 
-set_one : (set : List Bool) (n : ℕ) → n < length set → members (slice_set set n true) ≡ insert_once n (members set)
+pub set_one : (set : List Bool) (n : ℕ) → n < length set → members (slice_set set n true) ≡ insert_once n (members set)
 set_one set n less = set_from 0 set n less ∙ ap (λ t. insert_once t (members set)) (let e : 0 + n ≡ n = omega arith in e)
 
 none : (n : ℕ) → members (replicate n false) ≡ []
@@ -127,7 +127,7 @@ long_put : (n : ℕ) (ts : List ℕ) → length (put n ts) ≡ n
 long_put n [] = length-replicate n false
 long_put n (t ∷ ts) = length-set (put n ts) t true ∙ long_put n ts
 
-none_has : (n k : ℕ) → has (replicate n false) k ≡ false
+pub none_has : (n k : ℕ) → has (replicate n false) k ≡ false
 none_has zero k = refl
 none_has (suc n) zero = refl
 none_has (suc n) (suc k) = none_has n k
