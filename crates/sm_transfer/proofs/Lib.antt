@@ -1,0 +1,5 @@
+pub mod LandedLemmas
+pub mod PlanningLemmas
+pub mod BeginLemmas
+pub mod KeepLemmas
+pub mod LegLemmas

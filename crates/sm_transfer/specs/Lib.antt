@@ -1,0 +1,4 @@
+pub mod Sending
+pub mod Beginning
+pub mod Shipping
+pub mod Landing
