@@ -1,0 +1,11 @@
+//! Tests of a catalogue over disks in memory: scripts, and disks that fail or stop.
+#![tactic(auto)]
+
+#[cfg(test)]
+mod disks;
+#[cfg(test)]
+mod printing;
+#[cfg(test)]
+mod scripts;
+#[cfg(test)]
+mod stops;
