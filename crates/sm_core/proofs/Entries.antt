@@ -86,7 +86,7 @@ pub one_done : {D : Type 0} (state : D → DiskState) → BlankedStaysSound → 
 one_done state stays actor e n n' given sound a says reply acts = record {
   leads = λ told line. fits_by (world_of n) (entry actor line e reply) a says (world_of n') (acts.answered told);
   across = across state e n n' a says acts.whole;
-  said = (a, says, inl acts.without_bytes.0);
+  said = (a, says, inl (record { replied = acts.without_bytes.0; world = world_of n'; is = refl; without_bytes = acts.without_bytes.1 }));
   stands = acts.up;
   sound = subst SoundUp (sym acts.without_bytes.1) (reached_sound stays (world_of n) e given sound a says);
 }
@@ -100,11 +100,12 @@ one_failed state stays actor e n n' given sound disk count x disk_is actor_is ev
     let fails = acts.failed disk count refl in
     let d : Deed = deed_to (world_of n) actor e reached in
     let now : deed_now x ≡ d = deed_same x n actor e actor_is event_is node_is ∙ deed_is (world_of n) actor e reached says in
-    let world : world_now (Some x) n' ≡ down disk.0 d = ap (λ (k : DiskNo). down k.0 (deed_now x)) disk_is ∙ ap (down disk.0) now in
+    let named : world_now (Some x) n' ≡ down disk.0 (deed_now x) = ap (λ (k : DiskNo). down k.0 (deed_now x)) disk_is in
+    let world : world_now (Some x) n' ≡ down disk.0 d = named ∙ ap (down disk.0) now in
     record {
       leads = λ told line. subst (λ (w : World). Leads (up (world_of n)) (entry actor line e (fault disk count)) w) (sym world) (failed_leads (world_of n) actor line e reached says disk count);
       across = across state e n n' (Ok reached) says acts.whole;
-      said = (Ok reached, says, inr (record { disk = disk; count = count; allowed = tt; is = refl; failed = fails.failed }));
+      said = (Ok reached, says, inr (record { disk = disk; count = count; allowed = tt; is = refl; failed = fails.failed; down = named ∙ ap (down disk.0) (deed_same x n actor e actor_is event_is node_is) }));
       stands = subst (λ (s : Side). IsHalved state (deed_now x) s n') (sym side_is)
           (subst (λ (y : Deed). IsHalved state y Before n') (sym now) (fails_halved state (Ok reached) disk count n n' fails root node d refl refl));
       sound = subst IsSoundPair (sym now) (sound, stays (world_of n) e reached given sound says);
@@ -116,7 +117,7 @@ pub one_down : {D : Type 0} (state : D → DiskState) (actor : ℕ) (e : Event) 
 one_down state actor e no_restart n x stands sound = record {
   leads = λ told line. ([], λ sides. Fits.down_still no_restart refl);
   across = refl;
-  said = refl;
+  said = (refl, refl);
   stands = stands;
   sound = sound;
 }

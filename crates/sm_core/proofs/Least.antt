@@ -1,11 +1,12 @@
 -- The lowest of ascending numbers above one.
 use Rattle.std.proofs.Common.{◌≡◌, inl, inr, ℕ, zero, suc, ◌<◌, ◌≤◌, List, [], ◌∷◌, map, Some, refl, sym, ap, subst, arith}
 use Rattle.std.specs.Prelude.{slice_get, ◌+◌}
+use Rattle.std.specs.List.{AllByRecursion}
 use Rattle.std.proofs.lemmas.Bool.{cases_lt}
 use Rattle.sm_defs.specs.Words.{Among, Ascends}
 use Rattle.sm_defs.proofs.Members.{among_each}
 use Rattle.sm_relation.specs.declared.relation.Relation.{Relation}
-use Rattle.sm_catroot.specs.Condition.{number_of}
+use Rattle.sm_catroot.specs.Condition.{number_of, IsRelation}
 use Rattle.sm_node.specs.Nodes.{stopped_relation}
 use Rattle.sm_seats.proofs.Lists.{one_value}
 use Rattle.sm_core.specs.Next.{IsLeastAbove, relation_number}
@@ -55,3 +56,8 @@ none_above (n ∷ ns) after below m (inr later) = none_above ns after (λ j x e.
 pub numbers_of : (rs : List Relation) → map relation_number (map stopped_relation rs) ≡ map number_of rs
 numbers_of [] = refl
 numbers_of (r ∷ rs) = ap (λ (ns : List ℕ). number_of r ∷ ns) (numbers_of rs)
+
+-- no relationship of a record has the number 0
+pub from_one : (rs : List Relation) → ((r : Relation) → Among rs r → IsRelation r) → AllByRecursion (λ m. 0 < m) (map number_of rs)
+from_one [] each = tt
+from_one (r ∷ rs) each = (let low = (each r (inl refl)).number.0 in omega (arith, low), from_one rs (λ s a. each s (inr a)))

@@ -13,13 +13,14 @@ use Rattle.sm_model.specs.Answer.{answer}
 use Rattle.sm_model.specs.LegalRun.{Fits, IsRestart, fault, is_down}
 use Rattle.sm_model.specs.Telling.{told_by}
 use Rattle.sm_model.specs.World.{World, up, down, Deed}
+use Rattle.sm_shape.specs.Blanked.{blanked}
 use Rattle.sm_history.specs.Acts.{entry}
 use Rattle.sm_node.specs.Nodes.{Node}
 use Rattle.sm_node.specs.Parts.{AllTold}
 use Rattle.sm_node.specs.ButBytes.{IsRepliedButBytes}
-use Rattle.sm_node.specs.Acts.{IsAllowed, DiskHasFailed, GoesThrough}
+use Rattle.sm_node.specs.Acts.{IsAllowed, DiskHasFailed, GoesThrough, reached_of}
 use Rattle.sm_events.specs.Served.{IsServed}
-use Rattle.sm_core.specs.Deeds.{next_of}
+use Rattle.sm_core.specs.Deeds.{deed_of, next_of}
 use Rattle.sm_core.specs.Kept.{Kept}
 use Rattle.sm_core.specs.Falling.{world_now, IsCatalogue, IsSoundNow}
 use Rattle.sm_core.specs.declared.down.Down.{Down}
@@ -33,20 +34,29 @@ IsServedIn (down disk d) e = ¬ IsRestart e
 abbrev pub Leads : World → Entry → World → Type 0
 Leads old e new = (deeds : List Deed) × ((sides : List Side) → Fits old e sides deeds new sides)
 
--- a disk failed in an event that is no refusal, and the reply names it with its count of faults
-pub record IsFailure {D : Type 0} (state : D → DiskState) (w : Up) (a : Answer) (reply : Reply) (old new : Node D) : Type 0 where
+-- the reply is the answer's, and the next world the one that it reaches, both but for the bytes of blocks
+pub record IsReached (w : Up) (a : Answer) (reply : Reply) (next : World) : Type 0 where
+  pub replied : IsRepliedButBytes a reply
+  pub world : Up
+  pub is : next ≡ up world
+  pub without_bytes : blanked world ≡ blanked (reached_of w a)
+
+-- a disk failed in an event that is no refusal, and the reply names it with its count of faults: the node is down with it, and
+-- the pair is that of what the event would have done
+pub record IsFailure {D : Type 0} (state : D → DiskState) (w : Up) (actor : ℕ) (e : Event) (a : Answer) (reply : Reply) (old new : Node D) (next : World) : Type 0 where
   pub disk : DiskNo
   pub count : ℕ
   pub allowed : IsAllowed a
   pub is : reply ≡ fault disk count
   pub failed : DiskHasFailed state w disk count old new
+  pub down : next ≡ down disk.0 (deed_of w actor e)
 
 module _ {D : Type 0} (state : D → DiskState) where
-  -- What is answered, whether the disks tell their content or not: what the definitions say, but for the bytes of a read
-  -- and digests, or that a disk failed. While the node is down, that it is.
-  abbrev pub IsSaid : World → Event → Reply → Node D → Node D → Type 0
-  IsSaid (up w) e reply old new = (a : Answer) × (answer w e ≡ Some a) × (IsRepliedButBytes a reply ⊎ IsFailure state w a reply old new)
-  IsSaid (down disk d) e reply old new = reply ≡ is_down disk
+  -- What is answered and what the next world is, whether the disks tell their content or not: what the definitions say, but for
+  -- the bytes of a read, of digests and of blocks, or that a disk failed. While the node is down, that it is, and it stays so.
+  abbrev pub IsSaid : World → ℕ → Event → Reply → Node D → Node D → World → Type 0
+  IsSaid (up w) actor e reply old new next = (a : Answer) × (answer w e ≡ Some a) × (IsReached w a reply next ⊎ IsFailure state w actor e a reply old new next)
+  IsSaid (down disk d) actor e reply old new next = (reply ≡ is_down disk) × (next ≡ down disk d)
 
   -- The crash clause of an event. A node that is down is left alone.
   abbrev pub GoesAcross : World → Event → Node D → Node D → Type 0
@@ -57,7 +67,7 @@ module _ {D : Type 0} (state : D → DiskState) where
   pub record DoesOne (actor : ℕ) (e : Event) (reply : Reply) (since : Option (Down D)) (old : Node D) (since' : Option (Down D)) (new : Node D) : Type 0 where
     pub leads : AllTold state old.seats → (line : ℕ) → Leads (world_now since old) (entry actor line e reply) (world_now since' new)
     pub across : GoesAcross (world_now since old) e old new
-    pub said : IsSaid (world_now since old) e reply old new
+    pub said : IsSaid (world_now since old) actor e reply old new (world_now since' new)
     pub stands : IsCatalogue state since' new
     pub sound : IsSoundNow since' new
 
@@ -70,4 +80,4 @@ module _ {D : Type 0} (state : D → DiskState) where
     pub sides : new.sides ≡ old.sides
     pub leads : AllTold state old.node.seats → Leads old.world (entry actor line e kept) new.world
     pub across : GoesAcross old.world e old.node new.node
-    pub said : IsSaid old.world e kept old.node new.node
+    pub said : IsSaid old.world actor e kept old.node new.node new.world

@@ -1,8 +1,8 @@
 -- The next relationship of a world.
-use Rattle.std.specs.Prelude.{◌≡◌, ℕ, ◌<◌, ◌≤◌, List, map, Option, None, Some}
+use Rattle.std.specs.Prelude.{◌≡◌, ℕ, ◌<◌, ◌≤◌, List, ◌∷◌, map, Option, None, Some}
 use Rattle.sm_base.specs.declared.numbers.RelNo.{RelNo}
 use Rattle.sm_defs.specs.Relationship.{Relationship}
-use Rattle.sm_defs.specs.Words.{Among}
+use Rattle.sm_defs.specs.Words.{Among, Ascends}
 use Rattle.sm_model.specs.World.{World, up, down}
 
 -- the lowest of the numbers above this one
@@ -23,3 +23,8 @@ relation_number r = r.number
 abbrev pub IsNextIn : World → ℕ → Option RelNo → Type 0
 IsNextIn (up w) after result = IsNext (map relation_number w.relations) after result
 IsNextIn (down disk d) after result = result ≡ None
+
+-- the relationships stand in the order of their numbers, of which none is 0
+abbrev pub AreNumbered : World → Type 0
+AreNumbered (up w) = Ascends (0 ∷ map relation_number w.relations)
+AreNumbered (down disk d) = Unit {0}

@@ -3,7 +3,7 @@ ghost use Rattle.std.specs.Prelude.{◌≡◌, None, map};
 ghost use Rattle.sm_defs.specs.Words.{Ascends};
 ghost use Rattle.sm_catroot.specs.Condition.{number_of};
 ghost use Rattle.sm_core.specs.Falling.{world_now};
-ghost use Rattle.sm_core.specs.Next.{IsNext, IsNextIn};
+ghost use Rattle.sm_core.specs.Next.{IsNext, IsNextIn, AreNumbered};
 
 use crate::catalogue::Catalogue;
 use crate::down::Down;
@@ -33,7 +33,8 @@ fn relations_of(catalog: &Catalog) -> &[Relation]
 }
 
 fn next_of<D: Disk + Drop>(node: &Node<D>, down: &Option<Down<D>>, after: u32) -> Option<RelNo>
-    ensures { IsNextIn (world_now down.now node.now) after result }
+    ensures next { IsNextIn (world_now down.now node.now) after result }
+    ensures order { AreNumbered (world_now down.now node.now) }
 {
     match down {
         Some(_) => None,
@@ -46,9 +47,10 @@ fn next_of<D: Disk + Drop>(node: &Node<D>, down: &Option<Down<D>>, after: u32) -
 
 impl<D: Disk + Drop> Catalogue<D> {
     /// The lowest number above this one of a relationship that stands; none exactly where there is none or the
-    /// node is down.
+    /// node is down. The relationships stand in the order of their numbers, from 1 on.
     pub fn next_relation(&self, after: u32) -> Option<RelNo>
-        ensures { IsNextIn self.now.world after result }
+        ensures next { IsNextIn self.now.world after result }
+        ensures order { AreNumbered self.now.world }
     {
         next_of(&self.node, &self.down, after)
     }

@@ -31,7 +31,7 @@ returns-clause-one g c =
       leads = λ told. subst (λ (k : Kept _). Leads k.world (entry c.args.actor c.args.line e h.0) (world_now new.down new.node)) old
           (does.leads (subst (λ (k : Kept _). AllTold state k.node.seats) (sym old) told) c.args.line);
       across = subst (λ (k : Kept _). GoesAcross state k.world e k.node new.node) old does.across;
-      said = subst (λ (k : Kept _). IsSaid state k.world e h.0 k.node new.node) old does.said;
+      said = subst (λ (k : Kept _). IsSaid state k.world c.args.actor e h.0 k.node new.node (world_now new.down new.node)) old does.said;
     }) c.keep.ensures.kept
 
 pub returns-clause-same : goal.returns-clause-same
