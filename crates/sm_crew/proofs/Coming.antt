@@ -1,25 +1,22 @@
 -- How a catalogue comes by entries, one after another.
-use Rattle.std.proofs.Common.{◌≡◌, suc, List, [], ◌∷◌, ◌++◌, map, refl, sym, ap, subst, ◌∙◌, arith, append_assoc, append-nil}
-use Rattle.std.specs.Prelude.{IsTrue}
+use Rattle.std.proofs.Common.{◌≡◌, ℕ, ◌≤◌, suc, List, [], ◌∷◌, ◌++◌, refl, sym, ap, subst, ◌∙◌, arith, append_assoc, append-nil}
+use Rattle.std.specs.Prelude.{IsTrue, slice_get, length, map, Some}
 use Rattle.std.proofs.lemmas.List.{length-map, length-append}
 use Rattle.std.proofs.lemmas.Option.{slice_get_within}
 use Rattle.sm_disk.specs.Disk.{DiskState}
 use Rattle.sm_model.specs.declared.event.Event.{Event}
 use Rattle.sm_model.specs.declared.reply.Entry.{Entry}
 use Rattle.sm_model.specs.declared.reply.Reply.{Reply}
-use Rattle.sm_defs.specs.World.{Up}
-use Rattle.sm_model.specs.Answer.{answer}
 use Rattle.sm_model.specs.World.{World, up, down}
 use Rattle.sm_model.specs.LegalRun.{Fits}
 use Rattle.sm_history.specs.Acts.{entry}
 use Rattle.sm_seats.proofs.Lists.{some_at}
-use Rattle.sm_node.specs.Seats.{device}
+use Rattle.sm_node.specs.Seats.{Seated, device}
 use Rattle.sm_node.specs.Nodes.{Node}
 use Rattle.sm_node.specs.Parts.{AllTold}
-use Rattle.sm_node.specs.Acts.{GoesThrough, stays, joins}
+use Rattle.sm_node.specs.Acts.{stays, joins}
 use Rattle.sm_node.proofs.Lists.{mapped_to}
 use Rattle.sm_node.proofs.Trimming.{get_front}
-use Rattle.sm_core.specs.Deeds.{next_of}
 use Rattle.sm_core.specs.Doing.{GoesAcross}
 use Rattle.sm_core.specs.Kept.{Kept}
 use Rattle.sm_crew.specs.Coming.{Makes, Comes, RunsOn}
@@ -52,28 +49,27 @@ module _ {D : Type 0} (state : D → DiskState) where
   -- ---- a run
 
   -- disks that tell their content have told it before
-  told_through : (before after : Up) (old new : Node D) → GoesThrough state before after old new → AllTold state new.seats → AllTold state old.seats
-  told_through before after old new (stays commits whole) told = λ i s is.
+  told_at : (old new : Node D) → length old.seats ≤ length new.seats → ((i : ℕ) (s x : Seated D) → slice_get old.seats i ≡ Some s → slice_get new.seats i ≡ Some x → (state (device x)).told ≡ (state (device s)).told)
+      → AllTold state new.seats → AllTold state old.seats
+  told_at old new many same told = λ i s is.
       let within = slice_get_within old.seats i s is in
-      let now_many = length-map new.seats device in
-      let old_many = length-map old.seats device in
-      let as_long = whole.as_long in
-      let x = some_at new.seats i (omega (arith, within, now_many, old_many, as_long)) in
-      let same = whole.told (suc i) (device s) (device x.0) (mapped_to device old.seats i s is) (mapped_to device new.seats i x.0 x.1) in
-      subst IsTrue same (told i x.0 x.1)
-  told_through before after old new (joins number blank was numbers whole) told = λ i s is.
-      let within = slice_get_within old.seats i s is in
-      let now_many = length-map new.seats device in
-      let old_many = length-map old.seats device in
-      let one_more = length-append (map device old.seats) (blank ∷ []) in
-      let as_long = whole.as_long in
-      let x = some_at new.seats i (omega (arith, within, now_many, old_many, one_more, as_long)) in
-      let here = get_front (map device old.seats) blank i (device s) (mapped_to device old.seats i s is) in
-      let same = whole.told (suc i) (device s) (device x.0) here (mapped_to device new.seats i x.0 x.1) in
-      subst IsTrue same (told i x.0 x.1)
+      let x = some_at new.seats i (omega (arith, within, many)) in
+      subst IsTrue (same i s x.0 is x.1) (told i x.0 x.1)
 
   told_before : (w : World) (e : Event) (old new : Node D) → GoesAcross state w e old new → AllTold state new.seats → AllTold state old.seats
-  told_before (up w) e old new across told = told_through w (next_of w (answer w e)) old new across told
+  told_before (up w) e old new (stays commits whole) told =
+      let now_many = length-map new.seats device in
+      let old_many = length-map old.seats device in
+      let as_long = whole.as_long in
+      told_at old new (omega (arith, now_many, old_many, as_long))
+      (λ i s x is now. whole.told (suc i) (device s) (device x) (mapped_to device old.seats i s is) (mapped_to device new.seats i x now)) told
+  told_before (up w) e old new (joins number blank there numbers_are whole) told =
+      let now_many = length-map new.seats device in
+      let old_many = length-map old.seats device in
+      let pushed = length-append (map device old.seats) (blank ∷ []) in
+      let as_long = whole.as_long in
+      told_at old new (omega (arith, now_many, old_many, pushed, as_long))
+      (λ i s x is now. whole.told (suc i) (device s) (device x) (get_front (map device old.seats) blank i (device s) (mapped_to device old.seats i s is)) (mapped_to device new.seats i x now)) told
   told_before (down disk d) e old new same told = subst (λ (n : Node D). AllTold state n.seats) same told
 
   told_back : (es : List Entry) (old new : Kept D) → Comes state old es new → AllTold state new.node.seats → AllTold state old.node.seats
@@ -83,7 +79,7 @@ module _ {D : Type 0} (state : D → DiskState) where
   pub runs_on : (es : List Entry) (old new : Kept D) → Comes state old es new → RunsOn state old es new
   runs_on [] old new same told = ([], (refl, refl, ap (λ (k : Kept D). k.world) same))
   runs_on (e ∷ es) old new (mid, made, rest) told =
-      let leads = made.acts.leads (told_back (e ∷ es) old new (mid, made, rest) told) in
+      let leads = made.acts.leads (told_before old.world e.event old.node mid.node made.acts.across (told_back es mid new rest told)) in
       let later = runs_on es mid new rest told in
       let fits = subst (λ (r : Reply). Fits old.world (entry e.actor e.line e.event r) [] leads.0 mid.world []) made.kept (leads.1 []) in
       (leads.0 ++ later.0, (leads.0, later.0, [], mid.world, made.asked, fits, later.1, refl))

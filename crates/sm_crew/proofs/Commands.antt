@@ -1,5 +1,6 @@
 -- How far commands are done.
 use Rattle.std.proofs.Common.{◌≡◌, ℕ, ◌+◌, ◌-◌, ◌<◌, ◌≤◌, ◌==◌, ◌&&◌, Bool, true, false, cond, List, [], ◌∷◌, ◌++◌, map, length, take, drop, get_or, Option, Some, None, Result, Ok, Err, refl, sym, ap, subst, ◌∙◌, arith, eqb-true}
+use Rattle.std.specs.Prelude.{IfSome}
 use Rattle.std.proofs.lemmas.List.{length-append, length-map, map-append, take_all, take_more, drop_more, take-append-drop}
 use Rattle.sm_base.specs.declared.limits.TheConstants.{MOST_ENTRIES}
 use Rattle.sm_disk.specs.Disk.{DiskState}
@@ -22,10 +23,13 @@ use Rattle.sm_events.specs.Served.{IsServed}
 use Rattle.sm_core.specs.Doing.{IsServedIn}
 use Rattle.sm_core.specs.Faults.{Faults, act_fault, is_work}
 use Rattle.sm_core.specs.Kept.{Kept}
+use Rattle.sm_grammar.specs.Asked.{AsksScripted}
+use Rattle.sm_crew.specs.Asked.{IsRunnable}
 use Rattle.sm_crew.specs.Coming.{MakesOne, Comes}
 use Rattle.sm_crew.specs.Ended.{last_reply, IsWhy, AreBegun}
 use Rattle.sm_crew.specs.Alone.{RunsOne, RunsAlone}
 use Rattle.sm_crew.proofs.Replies.{same_next, last_done, last_behind}
+use Rattle.sm_crew.proofs.Scripted.{next_runs}
 use Rattle.sm_crew.proofs.Coming.{comes_more, comes_join, grown, same_sides, runs_on}
 
 -- ---- what may be asked
@@ -40,13 +44,17 @@ pub served_in : (w : World) (e : Event) → IsServed e → IsServedIn w e
 served_in (up w) e served = served
 served_in (down disk d) e served = no_restart e served
 
+-- the next event of a command
+pub runnable : (task : Task) (done : ℕ) (last : Option Reply) (next : Option Event) (event : Event) → AsksScripted task → next ≡ next_of task done last → next ≡ Some event → IsRunnable event
+runnable task done last next event asks is some = next_runs task done last event asks (sym is ∙ some)
+
 -- ---- why an event is not done
 
 none_of : (t : Bool) → (t && false) ≡ false
 none_of true = refl
 none_of false = refl
 
-full_or_not : (history : List Entry) (event : Event) → act_fault history 0 event ≡ cond (length history == MOST_ENTRIES) (Some HistoryFull) None
+pub full_or_not : (history : List Entry) (event : Event) → act_fault history 0 event ≡ cond (length history == MOST_ENTRIES) (Some HistoryFull) None
 full_or_not history event = ap (λ t. cond t (Some Unchanged) (cond (length history == MOST_ENTRIES) (Some HistoryFull) None)) (none_of (is_work event))
 
 same_fault : (A : Type 0) (a b : ActFault) → ◌≡◌ {A = Result A ActFault} (Err a) (Err b) → a ≡ b

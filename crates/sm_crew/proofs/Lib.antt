@@ -2,3 +2,6 @@ mod Replies
 mod Coming
 mod Commands
 mod Scripted
+mod Reports
+mod Looks
+mod ReportParts

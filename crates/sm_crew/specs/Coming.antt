@@ -31,6 +31,6 @@ module _ {D : Type 0} (state : D → DiskState) where
   Comes old [] new = new ≡ old
   Comes old (e ∷ es) new = (mid : Kept D) × Makes old e mid × Comes mid es new
 
-  -- where the disks that have a seat at the end tell their content, the entries are a run, without a restart
+  -- where the disks tell their content, also those on which volumes were made, the entries are a run, without a restart
   abbrev pub RunsOn : Kept D → List Entry → Kept D → Type 0
   RunsOn old es new = AllTold state new.node.seats → (deeds : List Deed) × Run old.world es [] deeds new.world

@@ -2,3 +2,4 @@ pub mod Asked
 pub mod Coming
 pub mod Ended
 pub mod Alone
+pub mod Reporting

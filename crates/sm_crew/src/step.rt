@@ -2,8 +2,9 @@
 ghost use Rattle.std.specs.Prelude.{◌≡◌, [], ◌∷◌, IfOk, OnErr};
 ghost use Rattle.sm_grammar.specs.Events.{next_of};
 ghost use Rattle.sm_history.specs.declared.fault.ActFault.TheVariants.{NoMemory as OutOfMemory};
+ghost use Rattle.sm_model.specs.LegalRun.{IsAsked};
+ghost use Rattle.sm_core.specs.Doing.{IsServedIn};
 ghost use Rattle.sm_core.specs.Faults.{Faults, act_fault};
-ghost use Rattle.sm_crew.specs.Asked.{IsRunnable};
 ghost use Rattle.sm_crew.specs.Coming.{MakesOne};
 
 use sm_base::NoMemory;
@@ -30,14 +31,15 @@ pub fn next_event(
     }
 }
 
-/// Does an event of the script's actor, for a line of the script.
+/// Does an event of the script's actor, for a line of the script or, with 0, for the report.
 pub fn act_for<D: Disk + Drop>(
     alloc: Global,
     catalogue: &mut Catalogue<D>,
     line: u32,
     event: Event,
 ) -> Result<Reply, ActFault>
-    requires { IsRunnable event }
+    requires asked { IsAsked catalogue.old.world event }
+    requires served { IsServedIn catalogue.old.world event }
 
     ensures one { IfOk result (λ reply. MakesOne D.state catalogue.old line event reply catalogue.new) }
     ensures same { OnErr result (catalogue.new ≡ catalogue.old) }

@@ -3,7 +3,7 @@ use Rattle.std.proofs.lemmas.Result.{err_from_is_err_and}
 use Rattle.sm_base.specs.declared.limits.TheConstants.{MOST_ENTRIES}
 use Rattle.sm_model.specs.declared.reply.Reply.{Reply}
 use Rattle.sm_crew.specs.Coming.{MakesOne}
-use Rattle.sm_crew.proofs.Commands.{none_so_far, one_more, few, one_ended, one_refused}
+use Rattle.sm_crew.proofs.Commands.{served_in, runnable, none_so_far, one_more, few, one_ended, one_refused}
 use Rattle.sm_crew.proofs.alone.run_command.Goals as goal
 
 pub loop-last-init : goal.loop-last-init
@@ -15,6 +15,16 @@ returns-in_err-act_for g c =
     let l = c.loop-last in
     rw (p.1, p.2) (one_refused g.D.Disk.state Reply c.args.catalogue.now c.args.command.now l.done l.last l.catalogue c.act_for.new.catalogue c.in-Some.event c.in_err-act_for.field-0.0 l.invariant
     c.in_ok-event.field-0 c.in-Some.is c.in_ok-event.ensures.next c.in_err-act_for.ensures.same c.in_err-act_for.ensures.faults)
+
+pub act_for-requires-clause-asked : goal.act_for-requires-clause-asked
+act_for-requires-clause-asked g c =
+    let l = c.loop-last in
+    (runnable c.args.command.now.task l.done l.last c.in_ok-event.field-0 c.in-Some.event c.requires c.in_ok-event.ensures.next c.in-Some.is).0 l.catalogue.world
+
+pub act_for-requires-clause-served : goal.act_for-requires-clause-served
+act_for-requires-clause-served g c =
+    let l = c.loop-last in
+    served_in l.catalogue.world c.in-Some.event (runnable c.args.command.now.task l.done l.last c.in_ok-event.field-0 c.in-Some.event c.requires c.in_ok-event.ensures.next c.in-Some.is).1
 
 pub overflow_add-done : goal.overflow_add-done
 overflow_add-done g c =
