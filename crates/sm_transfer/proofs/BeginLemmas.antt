@@ -1,5 +1,5 @@
 -- How a leg begins, of what is given.
-use Rattle.std.proofs.Common.{◌≡◌, ◌≢◌, ℕ, zero, suc, ◌+◌, ◌<◌, ◌≤◌, ◌^◌, Bool, true, false, not, cond, List, [], ◌∷◌, length, map, Option, Some, None, Err, inl, inr, refl, sym, ◌∙◌, ap, subst, arith}
+use Rattle.std.proofs.Common.{◌≡◌, ◌≢◌, ℕ, ◌<◌, ◌≤◌, Bool, true, false, not, cond, List, [], ◌∷◌, length, map, Option, Some, None, Err, inl, inr, refl, sym, ◌∙◌, ap, subst, arith}
 use Rattle.std.specs.Prelude.{nat_lt, ◌&&◌, slice_index, slice_index_or, option_map}
 use Rattle.std.specs.List.{find}
 use Rattle.std.proofs.lemmas.Bool.{cases_eq, cases_lt, cases_Bool}
@@ -11,7 +11,7 @@ use Rattle.sm_base.specs.declared.numbers.VolNo.{VolNo}
 use Rattle.sm_base.specs.declared.refusal.Reason.{Reason}
 use Rattle.sm_base.specs.declared.refusal.Reason.TheVariants as reasons
 use Rattle.sm_defs.specs.Words.{Among, same_ident}
-use Rattle.sm_defs.specs.Image.{Image, tags, tag_of}
+use Rattle.sm_defs.specs.Image.{tags, tag_of}
 use Rattle.sm_defs.specs.Edges.{is_empty}
 use Rattle.sm_defs.specs.Missing.{Bases, mirror_cost, vault_cost, vault_landing}
 use Rattle.sm_defs.specs.Relationship.{Relationship, Transfer, is_mirror}
@@ -22,21 +22,18 @@ use Rattle.sm_root.specs.declared.root.Root.{Root}
 use Rattle.sm_root.specs.declared.root.RootSnapshot.{RootSnapshot}
 use Rattle.sm_relation.specs.declared.relation.Relation.{Relation}
 use Rattle.sm_relation.specs.declared.relation.Standing.{Standing}
-use Rattle.sm_relation.specs.Shown.{transfer_of, relationship_of}
+use Rattle.sm_relation.specs.Shown.{transfer_of}
 use Rattle.sm_select.specs.Planned.{Planned}
-use Rattle.sm_select.specs.PlanLaws.{IsMirrorPlan, IsVaultPlan}
 use Rattle.sm_model.specs.Running.{Running}
-use Rattle.sm_model.specs.LegsFit.{IsUnderWay, FirstLegFits}
-use Rattle.sm_model.specs.Steps.{snapshot_of, cost, landing, bases}
+use Rattle.sm_model.specs.Steps.{cost, bases}
 use Rattle.sm_model.specs.Due.{reason_if, ship_reason}
 use Rattle.laws_cases.proofs.Steps.Costs.{cost_at_most}
 use Rattle.volume_store.specs.Maps.{AreMapsOf}
 use Rattle.sm_volume.specs.Seen.{kept_snapshot, root_of}
-use Rattle.sm_volume.specs.Shown.{placed}
 use Rattle.sm_transfer.specs.declared.fault.StepFault.{StepFault}
 use Rattle.sm_transfer.specs.declared.fault.StepFault.TheVariants.{Stopped, DiskFault, NoMemory}
 use Rattle.sm_transfer.specs.Sending.{Sending, begun}
-use Rattle.sm_transfer.specs.Beginning.{IsGiven, MayBegin, CanBegin, bases_of, IsPlanOf, IsLegPlan, GoesOrStops, IsBegun, room_reason, leg_reason}
+use Rattle.sm_transfer.specs.Beginning.{MayBegin, CanBegin, bases_of, IsPlanOf, IsLegPlan, GoesOrStops, IsBegun, room_reason, leg_reason}
 use Rattle.sm_transfer.proofs.PlanningLemmas.{find_kept, room_enough}
 
 some_of : {X Y : Type 0} (f : X → Y) (o : Option X) (y : Y) → option_map f o ≡ Some y → (x : X) × (o ≡ Some x) × (f x ≡ y)

@@ -1,7 +1,6 @@
 -- What landed stays.
-use Rattle.std.proofs.Common.{◌≡◌, ◌≢◌, ◌⊎◌, ℕ, zero, suc, ◌+◌, ◌<◌, ◌≤◌, Bool, true, false, cond, List, [], ◌∷◌, length, Ok, Err, inl, inr, ⊎_elim, refl, sym, ◌∙◌, ap, subst, arith}
+use Rattle.std.proofs.Common.{◌≡◌, ◌≢◌, ◌⊎◌, ℕ, Bool, true, false, cond, List, [], ◌∷◌, length, Ok, Err, inl, inr, ⊎_elim, sym, ◌∙◌, ap, subst, arith}
 use Rattle.std.specs.Prelude.{nat_lt, Result, IfOk, IsTrue, OnOk, OnErr}
-use Rattle.std.proofs.lemmas.Bool.{cases_eq}
 use Rattle.sm_defs.specs.Words.{Among}
 use Rattle.sm_defs.specs.Image.{Block, stands}
 use Rattle.sm_defs.specs.Volume.{Volume, numbers}
@@ -21,7 +20,7 @@ use Rattle.sm_volume.specs.Shown.{Selects, SameBlocks, IsLikeIn}
 use Rattle.sm_transfer.specs.declared.fault.StepFault.{StepFault}
 use Rattle.sm_transfer.specs.Landing.{HasLanded, LandApart, ShipGoesOn, ShipKeepsWhatLanded, CheckpointKeepsWhatLanded}
 use Rattle.sm_transfer.specs.Sending.{Sending, IsUnderWay, from_of, to_of, with_landed, checked}
-use Rattle.sm_transfer.specs.Shipping.{IsShippable, ShipsAt, Checks}
+use Rattle.sm_transfer.specs.Shipping.{IsShippable, ShipsAt}
 
 insert_among : (k : ℕ) (ls : List ℕ) (j : ℕ) → Among (insert_landed k ls) j → (j ≡ k) ⊎ Among ls j
 insert_among k [] j (inl e) = inl e

@@ -1,32 +1,33 @@
 -- What a leg's plan is, index by index.
-use Rattle.std.proofs.Common.{◌≡◌, ◌≢◌, ◌⊎◌, ℕ, zero, suc, ◌+◌, ◌<◌, ◌≤◌, Bool, true, false, not, cond, List, [], ◌∷◌, length, map, take, Some, inl, inr, refl, sym, ◌∙◌, ap, subst, arith}
-use Rattle.std.specs.Prelude.{slice_get, slice_index, slice_index_or, nat_lt, ◌&&◌}
+use Rattle.std.proofs.Common.{◌≡◌, ℕ, zero, suc, ◌+◌, ◌<◌, ◌≤◌, Bool, true, false, not, List, [], ◌∷◌, length, map, Some, inl, inr, refl, sym, ◌∙◌, ap, subst, arith}
+use Rattle.std.specs.Prelude.{slice_get, slice_index_or, nat_lt, ◌&&◌}
 use Rattle.std.proofs.lemmas.Bool.{cases_lt, cases_eq, cases_Bool, not-true, and_parts}
 use Rattle.std.proofs.Common.{ltb-true}
-use Rattle.std.proofs.lemmas.Bool.Decides.{nat_tests}
-use Rattle.std.proofs.lemmas.List.{length-map, get_or-map, get_or-take}
+use Rattle.std.proofs.lemmas.List.{get_or-map, get_or-take}
 use Rattle.std.proofs.lemmas.Option.{slice_get-get_or}
 use Rattle.sm_base.specs.declared.limits.TheConstants.{WINDOW}
 use Rattle.sm_base.specs.declared.numbers.PolicyKind.{PolicyKind}
-use Rattle.sm_defs.specs.Words.{Among, Ascends}
+use Rattle.sm_base.specs.declared.numbers.Ident.{Ident}
+use Rattle.sm_defs.specs.Words.{Among, Ascends, same_ident}
 use Rattle.sm_defs.specs.Image.{Block, Image, stands, tags, tag_of, bytes_of}
-use Rattle.sm_defs.specs.Missing.{Bases, missing_tags, missing_places, vault_cost, tags_in, vault_landing, moved}
+use Rattle.sm_defs.specs.Missing.{Bases, missing_tags, missing_places, vault_cost, tags_in, moved}
 use Rattle.sm_defs.specs.Relationship.{is_mirror}
 use Rattle.sm_defs.specs.Volume.{Volume, Snapshot, images_of, image_of, tags_of, free_tags}
 use Rattle.sm_defs.proofs.Members.{among_each, among_get_or, among_map, among_flat, among_stands, among_place, get_among}
+use Rattle.sm_defs.proofs.Searches.{find_is}
 use Rattle.sm_disk.specs.Image as disk
 use Rattle.laws_transfer.specs.Costs.{HaveTag}
 use Rattle.laws_transfer.proofs.Asc.{missing_tags_are, missing_places_are, have_from}
 use Rattle.laws_transfer.proofs.Landed.{in_order, free_ascend, free_from}
 use Rattle.sm_relation.specs.declared.relation.Relation.{Relation}
 use Rattle.sm_select.specs.Planned.{Planned, twice}
-use Rattle.sm_select.specs.PlanLaws.{IsMirrorPlan, IsVaultPlan, number_at, from_number, to_number}
+use Rattle.sm_select.specs.PlanLaws.{IsMirrorPlan, number_at, from_number, to_number}
 use Rattle.sm_model.specs.Running.{Running}
-use Rattle.sm_model.specs.Steps.{bases, cost, may_ship}
+use Rattle.sm_model.specs.Steps.{bases, cost, snapshot_of}
 use Rattle.volume_store.specs.Held.{block_at}
 use Rattle.volume_store.specs.Maps.{AreMapsOf}
-use Rattle.sm_volume.specs.Assigned.{HasBlock}
 use Rattle.sm_transfer.specs.Beginning.{CanBegin, HasRoom, IsLegPlan}
+use Rattle.sm_transfer.specs.Landed.{WhatLandedHasLanded}
 use Rattle.sm_transfer.specs.Landing.{HasLanded, LandApart, OfMirror, OfVault, LandsAs, WhatLandedIsTheLegs, LegsLandApart, StandsBySnapshots, PlannedShipsFit, DueShipsFit}
 use Rattle.sm_transfer.specs.Sending.{Sending, no_pair, from_of, to_of}
 use Rattle.sm_transfer.specs.Shipping.{IsShippable}
@@ -148,6 +149,19 @@ what_landed = λ x leg plan landed c among is has k b m lands.
       | inl mirror ↦ mirror_landed leg.image x.destination.snapshots plan (is.is_plan.0 mirror) landed x.source c there has k b m (subst (λ (p : Bool). LandsAs p x leg k b) mirror lands)
       | inr vault ↦ vault_landed leg.image (bases x) (free_tags x.destination) plan (is.is_plan.1 vault) landed x.source c there has k b m (subst (λ (p : Bool). LandsAs p x leg k b) vault lands)
     ]
+
+pub has_landed : WhatLandedHasLanded
+has_landed = λ x leg t c may is tells has i later first legs lacks first_is k b m lands.
+    let same : i ≡ may.first = cons_first i may.first later may.later (sym legs ∙ may.legs) in
+    let leg_same : first ≡ leg = some_same first leg (sym first_is ∙ ap (λ (j : Ident). snapshot_of x.source.snapshots (Some j)) same ∙ may.leg_is) in
+    let among : Among x.source.snapshots leg = (find_is (λ (s : Snapshot). same_ident s.ident may.first) x.source.snapshots leg may.leg_is).0 in
+    what_landed x leg t.plan t.landed c among is has k b (subst (λ (ls : List ℕ). Among ls k) (sym tells.landed) m) (subst (λ (s : Snapshot). LandsAs (is_mirror x.policy.kind) x s k b) leg_same lands)
+  where
+    cons_first : (i j : Ident) (is js : List Ident) → i ∷ is ≡ j ∷ js → i ≡ j
+    cons_first i j is js e = cc
+
+    some_same : (s t : Snapshot) → Some s ≡ Some t → s ≡ t
+    some_same s t e = cc
 
 -- ---- a Ship that is due
 

@@ -3,3 +3,4 @@ pub mod PlanningLemmas
 pub mod BeginLemmas
 pub mod KeepLemmas
 pub mod LegLemmas
+pub mod DefinedLemmas

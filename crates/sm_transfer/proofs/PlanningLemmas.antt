@@ -1,5 +1,5 @@
 -- What a volume's root and its free numbers say of a leg's plan.
-use Rattle.std.proofs.Common.{◌≡◌, ℕ, zero, suc, ◌+◌, ◌-◌, ◌<◌, ◌≤◌, Bool, true, false, not, cond, List, [], ◌∷◌, ◌++◌, length, map, replicate, Option, Some, None, refl, sym, ◌∙◌, ap, subst, arith}
+use Rattle.std.proofs.Common.{◌≡◌, ℕ, zero, suc, ◌<◌, ◌≤◌, Bool, true, false, not, cond, List, [], ◌∷◌, ◌++◌, length, map, replicate, Option, Some, None, refl, sym, ◌∙◌, ap, subst, arith}
 use Rattle.std.specs.Prelude.{nat_lt, option_map, slice_index}
 use Rattle.std.specs.List.{find, flat_map}
 use Rattle.std.proofs.lemmas.Bool.Decides.{nat_tests}
@@ -7,10 +7,10 @@ use Rattle.std.proofs.lemmas.List.{length-replicate}
 use Rattle.sm_base.specs.declared.numbers.Ident.{Ident}
 use Rattle.sm_base.specs.declared.numbers.VolNo.{VolNo}
 use Rattle.sm_base.specs.declared.refusal.Reason.TheVariants as reasons
-use Rattle.sm_bits.specs.Places.{has, size}
-use Rattle.sm_defs.specs.Words.{Among, same_ident}
+use Rattle.sm_bits.specs.Places.{size}
+use Rattle.sm_defs.specs.Words.{same_ident}
 use Rattle.sm_defs.specs.Image.{Image, stands, tags, distinct}
-use Rattle.sm_defs.specs.Volume.{Volume, Snapshot, images_of, tags_of, used, free, free_tags}
+use Rattle.sm_defs.specs.Volume.{Volume, Snapshot, images_of, used, free, free_tags}
 use Rattle.sm_defs.proofs.Searches.{find_is}
 use Rattle.sm_root.specs.declared.root.Root.{Root}
 use Rattle.sm_root.specs.declared.root.RootSnapshot.{RootSnapshot}
@@ -19,7 +19,7 @@ use Rattle.sm_select.specs.Planned.{members}
 use Rattle.sm_select.specs.PlanLaws.{HasTags}
 use Rattle.sm_select.proofs.PlanLemmas.{free_is}
 use Rattle.sm_model.specs.Steps.{snapshot_of, image_or_none}
-use Rattle.volume_store.specs.Maps.{AreMapsOf, AreFree, uses}
+use Rattle.volume_store.specs.Maps.{AreMapsOf, AreFree}
 use Rattle.volume_store.proofs.Used.{used_and_free}
 use Rattle.sm_volume.specs.Numbers.{AreFreeOn}
 use Rattle.sm_volume.specs.Seen.{kept_snapshot, root_of}
@@ -67,7 +67,7 @@ base_long root base is = long_or_holes root (found_in root.snapshots base) (long
 
 -- ---- free numbers
 
-flat_tags : (images : List Image) → flat_map tags images ≡ flat_map (λ (numbers : List ℕ). numbers) (map tags images)
+pub flat_tags : (images : List Image) → flat_map tags images ≡ flat_map (λ (numbers : List ℕ). numbers) (map tags images)
 flat_tags [] = refl
 flat_tags (image ∷ images) = ap (λ ts. tags image ++ ts) (flat_tags images)
 

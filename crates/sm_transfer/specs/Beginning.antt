@@ -1,5 +1,5 @@
 -- How a leg begins: what is given, its plan, and the reason why it cannot begin.
-use Rattle.std.specs.Prelude.{◌≡◌, ◌≢◌, ℕ, ◌≤◌, ◌<◌, true, false, nat_lt, if◌then◌else◌, List, [], ◌∷◌, length, replicate, map, Result, Ok, Err, Option, Some, None}
+use Rattle.std.specs.Prelude.{◌≡◌, ℕ, ◌≤◌, true, false, nat_lt, if◌then◌else◌, List, ◌∷◌, length, replicate, Result, Ok, Err, Option, Some, None}
 use Rattle.std.specs.List.{find}
 use Rattle.sm_base.specs.declared.numbers.Ident.{Ident}
 use Rattle.sm_base.specs.declared.numbers.PolicyKind.{PolicyKind}
@@ -9,7 +9,7 @@ use Rattle.sm_defs.specs.Words.{same_ident}
 use Rattle.sm_defs.specs.Image.{Image, tags}
 use Rattle.sm_defs.specs.Missing.{Bases, vault_cost}
 use Rattle.sm_defs.specs.Relationship.{is_mirror}
-use Rattle.sm_defs.specs.Volume.{Volume, Snapshot, has, free, free_tags, numbers}
+use Rattle.sm_defs.specs.Volume.{Volume, Snapshot, free, free_tags}
 use Rattle.sm_root.specs.declared.root.Root.{Root}
 use Rattle.sm_root.specs.declared.root.RootSnapshot.{RootSnapshot}
 use Rattle.sm_relation.specs.declared.relation.Relation.{Relation}

@@ -1,5 +1,5 @@
 -- What has landed at the destination, and that it stays there.
-use Rattle.std.specs.Prelude.{◌≡◌, ◌≢◌, ℕ, ◌≤◌, ◌<◌, Bool, true, false, List, length, map, Result, Some, slice_get, IfOk, IsTrue}
+use Rattle.std.specs.Prelude.{◌≡◌, ℕ, ◌≤◌, ◌<◌, Bool, true, false, List, length, map, Result, Some, slice_get, IfOk, IsTrue}
 use Rattle.sm_base.specs.declared.numbers.PolicyKind.{PolicyKind}
 use Rattle.sm_defs.specs.Words.{Among}
 use Rattle.sm_defs.specs.Image.{Block, Image, stands, tags}

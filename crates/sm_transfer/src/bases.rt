@@ -1,5 +1,5 @@
 // The block numbers of a root's snapshots.
-ghost use Rattle.std.specs.Prelude.{◌≡◌, ◌∷◌, length, Some, IfOk, replicate};
+ghost use Rattle.std.specs.Prelude.{◌≡◌, Some, IfOk, replicate};
 ghost use Rattle.std.specs.List.{find};
 ghost use Rattle.std.specs.Option.{option_copied};
 ghost use Rattle.sm_defs.specs.Words.{same_ident};

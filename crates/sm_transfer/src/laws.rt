@@ -1,4 +1,6 @@
 // What Ships and Checkpoints keep, and what that is in the words of the definitions.
+ghost use Rattle.sm_transfer.specs.Defined.{BeginsAsDefined, ShipsAsDefined, ChecksAsDefined, StopsAsDefined};
+ghost use Rattle.sm_transfer.specs.Landed.{WhatLandedHasLanded};
 ghost use Rattle.sm_transfer.specs.Landing.{ShipKeepsWhatLanded, CheckpointKeepsWhatLanded, WhatLandedIsTheLegs, LegsLandApart, PlannedShipsFit, DueShipsFit};
 
 use sm_disk::Disk;
@@ -18,6 +20,7 @@ pub fn checkpoint_keeps_what_landed<D: Disk>()
 /// number.
 pub fn what_landed_is_the_legs()
     ensures legs { WhatLandedIsTheLegs }
+    ensures landed { WhatLandedHasLanded }
     ensures apart { LegsLandApart }
 {}
 
@@ -26,4 +29,12 @@ pub fn what_landed_is_the_legs()
 pub fn due_ships_fit()
     ensures planned { PlannedShipsFit }
     ensures due { DueShipsFit }
+{}
+
+/// What the steps make of a transfer is what the definitions make of theirs.
+pub fn steps_are_the_definitions()
+    ensures begins { BeginsAsDefined }
+    ensures ships { ShipsAsDefined }
+    ensures checks { ChecksAsDefined }
+    ensures stops { StopsAsDefined }
 {}

@@ -16,6 +16,7 @@ mod transfer;
 pub use begin::begin_leg;
 pub use fault::StepFault;
 pub use laws::{
-    checkpoint_keeps_what_landed, due_ships_fit, ship_keeps_what_landed, what_landed_is_the_legs,
+    checkpoint_keeps_what_landed, due_ships_fit, ship_keeps_what_landed, steps_are_the_definitions,
+    what_landed_is_the_legs,
 };
 pub use transfer::Transfer;

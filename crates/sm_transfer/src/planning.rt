@@ -1,5 +1,5 @@
 // The plan of a leg between two volumes.
-ghost use Rattle.std.specs.Prelude.{◌≡◌, ◌≤◌, ◌<◌, ◌^◌, length, true, IfOk};
+ghost use Rattle.std.specs.Prelude.{◌≡◌, ◌≤◌, length, true, IfOk};
 ghost use Rattle.std.specs.List.{All};
 ghost use Rattle.sm_defs.specs.Image.{Image, tags};
 ghost use Rattle.sm_defs.specs.Missing.{vault_cost};

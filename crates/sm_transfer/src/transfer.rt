@@ -2,8 +2,7 @@
 ghost use Rattle.std.specs.Prelude.{◌≡◌, ◌≤◌, ◌<◌, ◌^◌, length, IfOk, None};
 ghost use Rattle.sm_defs.specs.Image.{stands};
 ghost use Rattle.sm_defs.specs.Progress.{landed_prefix};
-ghost use Rattle.sm_defs.specs.Volume.{numbers};
-ghost use Rattle.sm_transfer.specs.Sending.{Sending, IsUnderWay, begun, stopped_by};
+ghost use Rattle.sm_transfer.specs.Sending.{IsUnderWay, begun, stopped_by};
 
 use crate::landed::{end_of_landed, forget_from, land_below};
 use sm_base::{NoMemory, Reason};

@@ -1,5 +1,4 @@
-use Rattle.std.proofs.Common.{◌≡◌, ◌≤◌, false, ◌∙◌, ap, sym, refl, length, subst, ℕ, ◌<◌, true, arith}
-use Rattle.std.specs.Prelude.{not}
+use Rattle.std.proofs.Common.{◌≡◌, ◌∙◌, sym, length, ℕ, ◌<◌, true, arith}
 use Rattle.sm_bits.specs.Places.{has}
 use Rattle.sm_transfer.proofs.LandedLemmas.{prefix_is, past_end}
 use Rattle.sm_transfer.proofs.landed.end_of_landed.Goals as goal

@@ -1,4 +1,4 @@
-use Rattle.std.proofs.Common.{◌≡◌, length, subst, ℕ, arith}
+use Rattle.std.proofs.Common.{◌≡◌, subst, ℕ, arith}
 use Rattle.sm_transfer.proofs.LandedLemmas.{IsRun, run_ends}
 use Rattle.sm_transfer.proofs.landed.land_below.Goals as goal
 

@@ -4,7 +4,6 @@ use Rattle.sm_defs.specs.Volume.{free_tags}
 use Rattle.sm_select.proofs.MemberLemmas.{as_many_members}
 use Rattle.sm_root.specs.declared.root.Root.{Root}
 use Rattle.sm_select.specs.PlanLaws.{HasTags}
-use Rattle.sm_model.specs.Steps.{snapshot_of, image_or_none}
 use Rattle.sm_volume.specs.Seen.{root_of}
 use Rattle.sm_transfer.specs.Beginning.{base_numbers, bases_of, room_reason}
 use Rattle.sm_transfer.proofs.PlanningLemmas.{base_tags, base_long, free_members, free_size, room_enough, room_lacking}

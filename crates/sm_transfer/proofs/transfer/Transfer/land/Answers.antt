@@ -1,5 +1,4 @@
 use Rattle.std.proofs.Common.{◌≡◌, ◌<◌, ℕ, List, false, length, ◌∙◌, ap, sym, subst, arith}
-use Rattle.sm_bits.specs.Places.{has}
 use Rattle.sm_defs.specs.Image.{stands}
 use Rattle.sm_select.specs.Planned.{members}
 use Rattle.sm_transfer.specs.Sending.{Sending, with_landed}

@@ -1,4 +1,4 @@
-use Rattle.std.proofs.Common.{◌≡◌, ◌≤◌, length, ◌∙◌, ap, sym, arith}
+use Rattle.std.proofs.Common.{◌∙◌, ap, sym, arith}
 use Rattle.sm_defs.specs.Image.{stands}
 use Rattle.sm_transfer.specs.Sending.{Sending}
 use Rattle.sm_transfer.proofs.LandedLemmas.{stands_marked, past_end}

@@ -1,4 +1,4 @@
-use Rattle.std.proofs.Common.{subst, length, arith}
+use Rattle.std.proofs.Common.{subst, arith}
 use Rattle.sm_transfer.specs.Sending.{IsUnderWay}
 use Rattle.sm_transfer.proofs.LandedLemmas.{ascend, among_within, marked_among}
 use Rattle.sm_transfer.proofs.transfer.Transfer.told.Goals as goal
