@@ -23,6 +23,10 @@ use Rattle.sm_node.specs.declared.fault.NodeFault.TheVariants.{Down as DownFault
 use Rattle.sm_register.specs.Registered as register
 use Rattle.sm_catroot.specs.Condition.{IsCatalog}
 use Rattle.sm_catroot.specs.Kept.{ShowsCatalog}
+use Rattle.sm_node.specs.Blocks.{IsNewIn, ChangesNewBlocks}
+use Rattle.sm_node.specs.Seats.{device}
+use Rattle.sm_node.proofs.BlockLemmas.{keeps_fewer}
+use Rattle.sm_events.specs.Served.{IsServed}
 use Rattle.sm_node.specs.Nodes.{Node, world_of, IsNode}
 use Rattle.sm_node.specs.Halved.{IsHalved}
 use Rattle.sm_node.proofs.Falls.{fails_halved}
@@ -31,7 +35,9 @@ use Rattle.sm_node.specs.Acts.{Acts, GoesThrough, IsAnswered, reached_of}
 use Rattle.sm_core.specs.Deeds.{boxed, reply_of, deed_to, deed_by, deed_of, next_of}
 use Rattle.sm_core.specs.Falling.{deed_now, world_now, kept_of, IsSoundPair}
 use Rattle.sm_core.specs.Doing.{Leads, GoesAcross, DoesOne}
+use Rattle.sm_core.specs.Written.{IsWrittenBy, WritesOnly}
 use Rattle.sm_core.specs.declared.down.Down.{Down}
+use Rattle.sm_core.proofs.WrittenLemmas.{answer_writes}
 
 -- ---- an answer as a deed
 
@@ -74,6 +80,15 @@ across : {D : Type 0} (state : D → DiskState) (e : Event) (n n' : Node D) (a :
     → GoesThrough state (world_of n) (reached_of (world_of n) a) n n' → GoesAcross state (up (world_of n)) e n n'
 across state e n n' a says whole = subst (λ (o : Option Answer). GoesThrough state (world_of n) (next_of (world_of n) o) n n') (sym says) whole
 
+-- only the block that the event writes is changed
+writes : {D : Type 0} (state : D → DiskState) (e : Event) (n n' : Node D) (a : Answer) → IsServed e → answer (world_of n) e ≡ Some a
+    → ChangesNewBlocks state (world_of n) (reached_of (world_of n) a) n n' → WritesOnly state (up (world_of n)) e n n'
+writes state e n n' a served says changes = record {
+  seats = λ i s t was is. keeps_fewer (IsWrittenBy (world_of n) e i) (IsNewIn (world_of n) (reached_of (world_of n) a) i) (λ k new. answer_writes (world_of n) e a served says i k new)
+      (state (device s)) (state (device t)) (changes.seats i s t was is);
+  joined = changes.joined;
+}
+
 -- ---- one event
 
 reached_sound : BlankedStaysSound → (w : Up) (e : Event) → IsGiven e → SoundUp (blanked w) → (a : Answer) → answer w e ≡ Some a → SoundUp (blanked (reached_of w a))
@@ -81,22 +96,23 @@ reached_sound stays w e given sound (Ok reached) says = stays w e reached given 
 reached_sound stays w e given sound (Err refusal) says = sound
 
 -- it was answered
-pub one_done : {D : Type 0} (state : D → DiskState) → BlankedStaysSound → (actor : ℕ) (e : Event) (n n' : Node D) → IsGiven e → SoundUp (blanked (world_of n))
+pub one_done : {D : Type 0} (state : D → DiskState) → BlankedStaysSound → (actor : ℕ) (e : Event) (n n' : Node D) → IsServed e → IsGiven e → SoundUp (blanked (world_of n))
     → (a : Answer) → answer (world_of n) e ≡ Some a → (reply : Reply) → Acts state a n (Ok reply) n' → DoesOne state actor e reply None n None n'
-one_done state stays actor e n n' given sound a says reply acts = record {
+one_done state stays actor e n n' served given sound a says reply acts = record {
   leads = λ told line. fits_by (world_of n) (entry actor line e reply) a says (world_of n') (acts.answered told);
   across = across state e n n' a says acts.whole;
+  blocks = writes state e n n' a served says acts.blocks;
   said = (a, says, inl (record { replied = acts.without_bytes.0; world = world_of n'; is = refl; without_bytes = acts.without_bytes.1 }));
   stands = acts.up;
   sound = subst SoundUp (sym acts.without_bytes.1) (reached_sound stays (world_of n) e given sound a says);
 }
 
 -- a disk failed: the snapshots keep the event and the node before it
-pub one_failed : {D : Type 0} (state : D → DiskState) → BlankedStaysSound → (actor : ℕ) (e : Event) (n n' : Node D) → IsGiven e → SoundUp (blanked (world_of n))
+pub one_failed : {D : Type 0} (state : D → DiskState) → BlankedStaysSound → (actor : ℕ) (e : Event) (n n' : Node D) → IsServed e → IsGiven e → SoundUp (blanked (world_of n))
     → (disk : DiskNo) (count : ℕ) (x : Down D) → x.disk ≡ disk → x.actor ≡ actor → x.event.value ≡ e → x.node.value ≡ n → x.side ≡ Before
     → register.IsKept state IsCatalog ShowsCatalog n'.root → IsNode state n' → (a : Answer) → answer (world_of n) e ≡ Some a → Acts state a n (Err (DownFault disk count)) n' → DoesOne state actor e (fault disk count) None n (Some x) n'
-one_failed state stays actor e n n' given sound disk count x disk_is actor_is event_is node_is side_is root node (Err refusal) says acts = absurd (acts.failed disk count refl).allowed
-one_failed state stays actor e n n' given sound disk count x disk_is actor_is event_is node_is side_is root node (Ok reached) says acts =
+one_failed state stays actor e n n' served given sound disk count x disk_is actor_is event_is node_is side_is root node (Err refusal) says acts = absurd (acts.failed disk count refl).allowed
+one_failed state stays actor e n n' served given sound disk count x disk_is actor_is event_is node_is side_is root node (Ok reached) says acts =
     let fails = acts.failed disk count refl in
     let d : Deed = deed_to (world_of n) actor e reached in
     let now : deed_now x ≡ d = deed_same x n actor e actor_is event_is node_is ∙ deed_is (world_of n) actor e reached says in
@@ -105,6 +121,7 @@ one_failed state stays actor e n n' given sound disk count x disk_is actor_is ev
     record {
       leads = λ told line. subst (λ (w : World). Leads (up (world_of n)) (entry actor line e (fault disk count)) w) (sym world) (failed_leads (world_of n) actor line e reached says disk count);
       across = across state e n n' (Ok reached) says acts.whole;
+      blocks = writes state e n n' (Ok reached) served says acts.blocks;
       said = (Ok reached, says, inr (record { disk = disk; count = count; allowed = tt; is = refl; failed = fails.failed; down = named ∙ ap (down disk.0) (deed_same x n actor e actor_is event_is node_is) }));
       stands = subst (λ (s : Side). IsHalved state (deed_now x) s n') (sym side_is)
           (subst (λ (y : Deed). IsHalved state y Before n') (sym now) (fails_halved state (Ok reached) disk count n n' fails root node d refl refl));
@@ -117,6 +134,7 @@ pub one_down : {D : Type 0} (state : D → DiskState) (actor : ℕ) (e : Event) 
 one_down state actor e no_restart n x stands sound = record {
   leads = λ told line. ([], λ sides. Fits.down_still no_restart refl);
   across = refl;
+  blocks = refl;
   said = (refl, refl);
   stands = stands;
   sound = sound;

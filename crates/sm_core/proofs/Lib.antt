@@ -1,3 +1,4 @@
+mod WrittenLemmas
 mod Entries
 mod Shows
 mod RestartEntry

@@ -23,6 +23,7 @@ use Rattle.sm_events.specs.Served.{IsServed}
 use Rattle.sm_core.specs.Deeds.{deed_of, next_of}
 use Rattle.sm_core.specs.Kept.{Kept}
 use Rattle.sm_core.specs.Falling.{world_now, IsCatalogue, IsSoundNow}
+use Rattle.sm_core.specs.Written.{WritesOnly}
 use Rattle.sm_core.specs.declared.down.Down.{Down}
 
 -- a node that is up does these; one that is down answers every event but a restart
@@ -67,6 +68,7 @@ module _ {D : Type 0} (state : D → DiskState) where
   pub record DoesOne (actor : ℕ) (e : Event) (reply : Reply) (since : Option (Down D)) (old : Node D) (since' : Option (Down D)) (new : Node D) : Type 0 where
     pub leads : AllTold state old.seats → (line : ℕ) → Leads (world_now since old) (entry actor line e reply) (world_now since' new)
     pub across : GoesAcross (world_now since old) e old new
+    pub blocks : WritesOnly state (world_now since old) e old new
     pub said : IsSaid (world_now since old) actor e reply old new (world_now since' new)
     pub stands : IsCatalogue state since' new
     pub sound : IsSoundNow since' new
@@ -80,4 +82,5 @@ module _ {D : Type 0} (state : D → DiskState) where
     pub sides : new.sides ≡ old.sides
     pub leads : AllTold state old.node.seats → Leads old.world (entry actor line e kept) new.world
     pub across : GoesAcross old.world e old.node new.node
+    pub blocks : WritesOnly state old.world e old.node new.node
     pub said : IsSaid old.world actor e kept old.node new.node new.world

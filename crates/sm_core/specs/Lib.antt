@@ -2,6 +2,7 @@ pub mod Deeds
 pub mod Kept
 pub mod Falling
 pub mod Faults
+pub mod Written
 pub mod Doing
 pub mod Restarting
 pub mod Next

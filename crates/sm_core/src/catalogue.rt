@@ -58,7 +58,8 @@ impl<D: Disk + Drop> Catalogue<D> {
         }
     }
 
-    /// Does one event for an actor and a line of a script, from 1, or 0 for none: one entry behind the history.
+    /// Does one event for an actor and a line of a script, from 1, or 0 for none: one entry behind the history. Of the
+    /// blocks on the disks only the one that a client writes is changed.
     ///
     /// # Errors
     ///

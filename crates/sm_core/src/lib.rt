@@ -11,7 +11,9 @@ mod restarting;
 mod rising;
 mod standing;
 mod unchanged;
+mod written;
 
 pub use catalogue::Catalogue;
 pub use rising::{faults_are_counted, faults_join};
 pub use sm_opening::OpenFault;
+pub use written::only_written_blocks_are_new;

@@ -27,6 +27,7 @@ use Rattle.sm_node.specs.Parts.{devices, part, StandsUp}
 use Rattle.sm_node.specs.Moves.{commit_answer}
 use Rattle.sm_node.specs.Acts.{reached_of, GoesThrough, Acts}
 use Rattle.sm_node.proofs.ButBytesLemmas.{reply_itself}
+use Rattle.sm_node.proofs.BlockLemmas.{none_changed}
 use Rattle.sm_node.proofs.Worlds.{catalog_kept}
 use Rattle.sm_node.proofs.SeatLemmas.{parts_now, root_goes_whole}
 use Rattle.sm_node.proofs.Fallen.{fallen_catalog, left_open_root}
@@ -42,6 +43,7 @@ module _ {D : Type 0} (state : D → DiskState) (n : Node D) (h : StandsUp state
     without_bytes = (refl, refl);
     failed = λ disk count e. absurd (cc);
     unchanged = λ e. absurd (cc);
+    blocks = none_changed state (world_of n) (world_of n) n n refl;
     whole = GoesThrough.stays 0 (nothing_done (world_of n));
   }
 
@@ -52,6 +54,7 @@ module _ {D : Type 0} (state : D → DiskState) (n : Node D) (h : StandsUp state
     without_bytes = tt;
     failed = λ disk count e. absurd (cc);
     unchanged = λ e. refl;
+    blocks = none_changed state (world_of n) (reached_of (world_of n) a) n n refl;
     whole = GoesThrough.stays 0 (nothing_done (reached_of (world_of n) a));
   }
 
@@ -94,6 +97,7 @@ module _ {D : Type 0} (state : D → DiskState) (n : Node D) (h : StandsUp state
       without_bytes = (reply_itself reply, ap (λ (x : Registered D Catalog). blanked (world_with x.held n.seats n.lengths)) c.ok);
       failed = λ disk count f. absurd (cc);
       unchanged = λ f. absurd (cc);
+      blocks = none_changed state (world_of n) (world_with next n.seats n.lengths) n (record n { root = root }) refl;
       whole = GoesThrough.stays 0 (whole (Ok done) c);
     }
     by_result (Err fault) c = record {
@@ -116,6 +120,7 @@ module _ {D : Type 0} (state : D → DiskState) (n : Node D) (h : StandsUp state
         left_open = left_open_root state n h root next (ap (λ (x : Registered D Catalog). x.held) c.fault) (ap (λ (x : Registered D Catalog). x.after) c.fault) places;
       };
       unchanged = λ f. absurd (cc);
+      blocks = none_changed state (world_of n) (world_with next n.seats n.lengths) n (record n { root = root }) refl;
       whole = GoesThrough.stays 0 (whole (Err fault) c);
     }
 

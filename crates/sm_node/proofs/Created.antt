@@ -30,11 +30,13 @@ use Rattle.sm_node.specs.Nodes.{Node, numbers, world_with, world_of, IsNode}
 use Rattle.sm_node.specs.Parts.{devices, StandsUp}
 use Rattle.sm_node.specs.Pending.{later, ahead, NonePending, IsLeftOpen}
 use Rattle.sm_node.specs.Moves.{commit_answer}
+use Rattle.sm_node.specs.Blocks.{ChangesNewBlocks}
 use Rattle.sm_node.specs.Acts.{IsFallen, GoesThrough, reached_of, Acts}
 use Rattle.sm_node.specs.Creating.{created, with_place, Takes, IsMade, IsUnmade}
 use Rattle.sm_seats.proofs.Lists.{last_or}
 use Rattle.sm_node.proofs.ButBytesLemmas.{reply_itself}
 use Rattle.sm_node.proofs.Lists.{get_set_other, get_set_same, set_again}
+use Rattle.sm_node.proofs.BlockLemmas.{none_changed, one_joined}
 use Rattle.sm_node.proofs.SeatLemmas.{parts_now}
 use Rattle.sm_node.proofs.Fallen.{ahead_same, none_pending, root_none, no_after}
 use Rattle.sm_node.proofs.Returned.{placed_front}
@@ -57,6 +59,9 @@ module _ {D : Type 0} (state : D → DiskState) (n : Node D) (h : StandsUp state
 
     none : NonePending (n.seats ++ seat ∷ [])
     none = λ i s e. ⊎_elim (λ old. none_pending state n h i s old.1) (λ last. subst (λ (t : Seated D). t.volume.after ≡ None) last.1 (ap (λ (y : Mounted D). y.after) made.is)) (last_or n.seats seat i s e)
+
+    blocks : ChangesNewBlocks state (world_of n) (reached_of (world_of n) (created (world_of n) path disk kind logical physical)) n (record n { root = root; seats = n.seats ++ (record { disk = disk.0; volume = m }) ∷ []; spares = slice_set n.spares disk.0 None })
+    blocks = one_joined state (world_of n) (reached_of (world_of n) (created (world_of n) path disk kind logical physical)) n seat blank there made.formatted (record n { root = root; seats = n.seats ++ (record { disk = disk.0; volume = m }) ∷ []; spares = slice_set n.spares disk.0 None }) refl
 
     module _ (r : Result (Unit {0}) Failed) (c : commits.Commits state ShowsCatalog n.root next r root) where
       whole : GoesThrough state (world_of n) (reached_of (world_of n) (created (world_of n) path disk kind logical physical)) n (record n { root = root; seats = n.seats ++ (record { disk = disk.0; volume = m }) ∷ []; spares = slice_set n.spares disk.0 None })
@@ -82,6 +87,7 @@ module _ {D : Type 0} (state : D → DiskState) (n : Node D) (h : StandsUp state
           without_bytes = (reply_itself (replies.Created (volno (length (world_of n).volumes))), ap blanked now);
           failed = λ other count e. absurd (cc);
           unchanged = λ e. absurd (cc);
+          blocks = blocks;
           whole = whole (Ok u) c;
         }
 
@@ -131,6 +137,7 @@ module _ {D : Type 0} (state : D → DiskState) (n : Node D) (h : StandsUp state
         left_open = left_open f c;
       };
       unchanged = λ e. absurd (cc);
+      blocks = blocks;
       whole = whole (Err f) c;
     }
 
@@ -216,6 +223,7 @@ module _ {D : Type 0} (state : D → DiskState) (n : Node D) (h : StandsUp state
         );
       };
       unchanged = λ e. absurd (cc);
+      blocks = none_changed state (world_of n) (reached_of (world_of n) (created (world_of n) path disk kind logical physical)) n (record n { spares = slice_set n.spares disk.0 (Some back) }) refl;
       whole = GoesThrough.stays 0 (h.nothing_changes 0 (world_of n) (reached_of (world_of n) (created (world_of n) path disk kind logical physical)) (devices n) (parts_now state n h));
     })
 

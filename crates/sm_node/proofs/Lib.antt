@@ -3,6 +3,7 @@ mod ButBytesLemmas
 pub mod Worlds
 pub mod SeatLemmas
 pub mod Fallen
+pub mod BlockLemmas
 pub mod CatalogCalls
 pub mod Clocks
 pub mod NamingLemmas

@@ -31,6 +31,7 @@ looks_acts state a old new (Ok reply) stays looks = record {
   without_bytes = (looks.but_bytes, ap blanked (looks.same ∙ sym stays));
   failed = looks.failed;
   unchanged = looks.unchanged;
+  blocks = looks.blocks;
   whole = GoesThrough.stays looks.whole.0 looks.whole.1;
 }
 looks_acts state a old new (Err fault) stays looks = record {
@@ -39,6 +40,7 @@ looks_acts state a old new (Err fault) stays looks = record {
   without_bytes = tt;
   failed = looks.failed;
   unchanged = looks.unchanged;
+  blocks = looks.blocks;
   whole = GoesThrough.stays looks.whole.0 looks.whole.1;
 }
 

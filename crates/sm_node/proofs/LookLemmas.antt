@@ -7,7 +7,7 @@ use Rattle.sm_base.specs.declared.numbers.DiskNo.{DiskNo}
 use Rattle.sm_base.specs.declared.refusal.Refusal.{Refusal}
 use Rattle.sm_defs.specs.Volume.{Volume}
 use Rattle.sm_defs.specs.World.{Up}
-use Rattle.sm_disk.specs.Disk.{DiskState, GoesOn, IsCounted}
+use Rattle.sm_disk.specs.Disk.{DiskState, GoesOn, IsQuiet, IsCounted}
 use Rattle.sm_disk.proofs.Moments.{weaker}
 use Rattle.sm_seats.specs.Seats.{GoesWhole}
 use Rattle.sm_model.specs.declared.reply.Reply.{Reply}
@@ -24,12 +24,14 @@ use Rattle.sm_node.specs.Nodes.{Node, placed, world_of}
 use Rattle.sm_node.specs.Parts.{devices, part, AllTold, StandsUp}
 use Rattle.sm_node.specs.Moves.{refusal_of, fault_answer}
 use Rattle.sm_node.specs.ButBytes.{IsRepliedButBytes}
+use Rattle.sm_node.specs.Blocks.{IsNewIn, ChangesNewBlocks}
 use Rattle.sm_node.specs.Acts.{IsReplied, IsAllowed, reached_of}
 use Rattle.sm_node.specs.Reading.{Reads}
 use Rattle.sm_node.specs.Looking.{Looks, LooksAs, answer_with, RefusesOrFailsWith}
 use Rattle.sm_seats.proofs.Lists.{one_value}
 use Rattle.sm_node.proofs.Lists.{get_set_same, set_again, mapped_to}
 use Rattle.sm_node.proofs.VolumeCalls.{not_failed, all_up_set}
+use Rattle.sm_node.proofs.BlockLemmas.{keeps_quiet, none_changed, one_changed}
 use Rattle.sm_node.proofs.Worlds.{placed_there}
 use Rattle.sm_node.proofs.SeatLemmas.{parts_now, volume_goes_whole}
 use Rattle.sm_node.proofs.Fallen.{left_open_volume, fallen_call}
@@ -58,6 +60,7 @@ module _ {D : Type 0} (state : D → DiskState) (n : Node D) (h : StandsUp state
     but_bytes = is;
     failed = λ disk count f. absurd (cc);
     unchanged = λ f. absurd (cc);
+    blocks = none_changed state (world_of n) (world_of n) n n refl;
     whole = (0, h.nothing_changes 0 (world_of n) (world_of n) (devices n) (parts_now state n h));
   })
 
@@ -69,6 +72,7 @@ module _ {D : Type 0} (state : D → DiskState) (n : Node D) (h : StandsUp state
     but_bytes = tt;
     failed = λ disk count f. absurd (cc);
     unchanged = λ f. refl;
+    blocks = none_changed state (world_of n) (reached_of (world_of n) a) n n refl;
     whole = (0, h.nothing_changes 0 (world_of n) (reached_of (world_of n) a) (devices n) (parts_now state n h));
   })
 
@@ -81,7 +85,10 @@ module _ {D : Type 0} (state : D → DiskState) (n : Node D) (h : StandsUp state
         (weaker (state (device s)) (state m.disk) _ _ goes (λ c may. inl (parts_now state n h (suc at) (device s) (mapped_to device n.seats at s was) c may)))
         (λ seat ne c shown. shown)
 
-    module _ (a : Answer) (stays : reached_of (world_of n) a ≡ world_of n) (goes : GoesOn (state (device s)) (state m.disk) (state (device s)).may_leave) where
+    module _ (a : Answer) (stays : reached_of (world_of n) a ≡ world_of n) (quiet : IsQuiet (state (device s)) (state m.disk)) (goes : GoesOn (state (device s)) (state m.disk) (state (device s)).may_leave) where
+      blocks_as : ChangesNewBlocks state (world_of n) (reached_of (world_of n) a) n (record n { seats = slice_set n.seats at (moved s m) })
+      blocks_as = one_changed state (world_of n) (reached_of (world_of n) a) n at s m was (keeps_quiet (IsNewIn (world_of n) (reached_of (world_of n) a) at) (state (device s)) (state m.disk) quiet goes)
+
       whole_as : GoesWhole state (suc at) (part (world_of n)) (part (reached_of (world_of n) a)) (devices n) (devices (record n { seats = slice_set n.seats at (moved s m) }))
       whole_as = subst (λ (w : Up). GoesWhole state (suc at) (part (world_of n)) (part w) (devices n) (devices (record n { seats = slice_set n.seats at (moved s m) }))) (sym stays) (goes_whole goes)
 
@@ -97,6 +104,7 @@ module _ {D : Type 0} (state : D → DiskState) (n : Node D) (h : StandsUp state
         but_bytes = but;
         failed = λ disk count f. absurd (cc);
         unchanged = λ f. absurd (cc);
+        blocks = blocks_as;
         whole = (suc at, whole_as);
       }
 
@@ -123,6 +131,7 @@ module _ {D : Type 0} (state : D → DiskState) (n : Node D) (h : StandsUp state
           left_open = left_open_volume state n h at p s m was place;
         };
         unchanged = λ f. absurd (cc);
+        blocks = blocks_as;
         whole = (suc at, whole_as);
       }
 
@@ -136,11 +145,11 @@ module _ {D : Type 0} (state : D → DiskState) (n : Node D) (h : StandsUp state
       unfolding fault_answer
       fault_so allowed stays f same r e reads =
           subst (λ (x : VolumeFault). Looked (fault_answer disk (state m.disk).faults x)) (sym same)
-          (failed_so a stays reads.any_moment allowed disk (state m.disk).faults named (reads.fault (e ∙ ap Err same)) (reads.counted (e ∙ ap Err same)) refl)
+          (failed_so a stays reads.quiet reads.any_moment allowed disk (state m.disk).faults named (reads.fault (e ∙ ap Err same)) (reads.counted (e ∙ ap Err same)) refl)
 
       allowed_so : IsAllowed a → reached_of (world_of n) a ≡ world_of n → (r : Result A VolumeFault) → OnErr r (r ≡ Err faults.DiskFault) → Reads state r s.volume m
           → IfOk r (λ x. (AllTold state n.seats → IsReplied a (reply x)) × IsRepliedButBytes a (reply x)) → Looked (answer_with reply disk (state m.disk).faults r)
-      allowed_so allowed stays (Ok x) only reads tells = done_so a stays reads.any_moment reads.ok (reply x) tells.0 tells.1
+      allowed_so allowed stays (Ok x) only reads tells = done_so a stays reads.quiet reads.any_moment reads.ok (reply x) tells.0 tells.1
       allowed_so allowed stays (Err f) only reads tells = fault_so allowed stays f (let same : f ≡ faults.DiskFault = cc in same) (Err f) refl reads
 
       refused_so : (g : Refusal) → a ≡ Err g → m ≡ s.volume → Looked (Ok (replies.Refused g))

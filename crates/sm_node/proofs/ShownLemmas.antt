@@ -13,6 +13,7 @@ use Rattle.sm_node.specs.Nodes.{Node, world_of}
 use Rattle.sm_node.specs.Parts.{devices, StandsUp}
 use Rattle.sm_node.specs.Acts.{Acts, GoesThrough}
 use Rattle.sm_node.proofs.ButBytesLemmas.{reply_itself}
+use Rattle.sm_node.proofs.BlockLemmas.{none_changed}
 use Rattle.sm_node.proofs.SeatLemmas.{parts_now}
 
 pub shown : {D : Type 0} (state : D → DiskState) (n : Node D) → StandsUp state n → (a : Answer) (reply : Reply) → a ≡ Ok (record { reply = told reply; world = world_of n }) → Acts state a n (Ok reply) n
@@ -22,6 +23,7 @@ shown state n h a reply is = subst (λ (b : Answer). Acts state b n (Ok reply) n
   without_bytes = (reply_itself reply, refl);
   failed = λ disk count e. absurd (cc);
   unchanged = λ e. absurd (cc);
+  blocks = none_changed state (world_of n) (world_of n) n n refl;
   whole = GoesThrough.stays 0 (h.nothing_changes 0 (world_of n) (world_of n) (devices n) (parts_now state n h));
 })
 

@@ -1,18 +1,19 @@
 -- An event that is one call of one volume.
-use Rattle.std.proofs.Common.{◌≡◌, ◌≢◌, ◌⊎◌, inl, inr, ⊎_elim, ℕ, zero, suc, true, List, refl, sym, ◌∙◌, ap, subst}
-use Rattle.std.specs.Prelude.{slice_get, slice_set, replicate, Option, Some, None, Result, Ok, Err, OnErr}
-use Rattle.std.proofs.lemmas.List.{length-set, map-set}
+use Rattle.std.proofs.Common.{◌≡◌, ◌≢◌, ◌⊎◌, inl, inr, ⊎_elim, ℕ, zero, suc, ◌<◌, Bool, true, false, if◌then◌else◌, List, length, refl, sym, ◌∙◌, ap, subst, arith}
+use Rattle.std.specs.Prelude.{slice_get, slice_set, replicate, nat_le, ◌==◌, Option, Some, None, Result, Ok, Err, OnErr}
+use Rattle.std.proofs.lemmas.List.{length-map, length-set, map-set}
 use Rattle.std.proofs.lemmas.Option.{slice_get_within}
 use Rattle.std.proofs.lemmas.Bool.{cases_eq}
+use Rattle.std.proofs.lemmas.Bool.Decides.{nat_tests}
 use Rattle.sm_base.specs.declared.numbers.DiskNo.{DiskNo}
 use Rattle.sm_base.specs.declared.refusal.Refusal.{Refusal}
 use Rattle.sm_disk.specs.Image.{Image}
 use Rattle.sm_disk.specs.Disk.{DiskState, GoesOn, IsCounted}
 use Rattle.sm_disk.proofs.Moments.{begun, weaker}
 use Rattle.sm_seats.specs.Seats.{GoesWhole}
-use Rattle.sm_defs.specs.Image.{Block, full_block}
+use Rattle.sm_defs.specs.Image.{Block, full_block, tag_of, tags}
 use Rattle.sm_defs.specs.Operations.{written, least_free}
-use Rattle.sm_defs.specs.Volume.{Volume}
+use Rattle.sm_defs.specs.Volume.{Volume, is_rw, used}
 use Rattle.sm_defs.specs.World.{Up, with_volume}
 use Rattle.sm_model.specs.declared.reply.Reply.{Reply}
 use Rattle.sm_model.specs.declared.reply.Reply.TheVariants as replies
@@ -23,7 +24,7 @@ use Rattle.volume_store.specs.declared.faults.VolumeFault.{VolumeFault}
 use Rattle.volume_store.specs.declared.faults.VolumeFault.TheVariants as faults
 use Rattle.sm_catroot.specs.declared.placed.Placed.{Placed}
 use Rattle.sm_volume.specs.Mounted.{Mounted}
-use Rattle.sm_volume.specs.Shown.{Shows}
+use Rattle.sm_volume.specs.Shown.{Shows, KeepsBlocks, NoBlock}
 use Rattle.sm_volume.specs.Commits.{Commits}
 use Rattle.sm_volume.specs.Refusals.{write_refusal}
 use Rattle.sm_shape.specs.Blank.{blank_block}
@@ -34,9 +35,11 @@ use Rattle.sm_node.specs.Seats.{Seated, device, moved, AllUp}
 use Rattle.sm_node.specs.Nodes.{Node, placed, world_of, IsUp}
 use Rattle.sm_node.specs.Parts.{place_of, devices, part, AllTold, StandsUp}
 use Rattle.sm_node.specs.Moves.{refusal_of, fault_answer, event_answer, at_place, Matches, Writes}
+use Rattle.sm_node.specs.Blocks.{IsNewIn, ChangesNewBlocks}
 use Rattle.sm_node.specs.Acts.{IsFallen, GoesThrough, Acts}
 use Rattle.sm_seats.proofs.Lists.{one_value}
 use Rattle.sm_node.proofs.ButBytesLemmas.{reply_itself}
+use Rattle.sm_node.proofs.BlockLemmas.{keeps_same, keeps_fewer, one_changed, write_is_new}
 use Rattle.sm_node.proofs.Lists.{get_set_other, get_set_same, set_again, mapped_to}
 use Rattle.sm_shape.proofs.Blanking.{with_blanked}
 use Rattle.sm_node.proofs.Worlds.{placed_there, shows_placed, world_set, catalog_set}
@@ -101,6 +104,11 @@ write_is_blank v at fill b tag =
     ∙ ap (λ (k : ℕ). set (slice_set (zeroed v.active) at (blank_block k))) tag
     ∙ ap set (sym (map-set to_zeros v.active at (full_block (least_free v) fill)))
 
+not_past : (a b c : Bool) → (if a then (if b then Some faults.BadBlock else if c then Some faults.NoSpace else None) else Some faults.ReadOnly) ≡ None → b ≡ false
+not_past false b c e = absurd (cc)
+not_past true true c e = absurd (cc)
+not_past true false c e = refl
+
 -- ---- the event
 
 module _ {D : Type 0} (state : D → DiskState) (n : Node D) (h : StandsUp state n) (at : ℕ) (p : Placed) (s : Seated D) (m : Mounted D)
@@ -128,11 +136,17 @@ module _ {D : Type 0} (state : D → DiskState) (n : Node D) (h : StandsUp state
     without_bytes = (refl, ap (λ (x : Node D). blanked (world_of x)) (node_same same));
     failed = λ disk count e. absurd (cc);
     unchanged = λ e. absurd (cc);
+    blocks = one_changed state (world_of n) (world_of n) n at s m was
+        (subst (λ (x : Mounted D). KeepsBlocks (IsNewIn (world_of n) (world_of n) at) (state (device s)) (state x.disk)) (sym same) (keeps_same (IsNewIn (world_of n) (world_of n) at) (state (device s))));
     whole = GoesThrough.stays (suc at) (whole_same same);
   }
 
   -- the call is no refusal: its volume goes to the next one, or stays
-  module _ (next : Volume) (reply : Reply) (goes : GoesOn (state (device s)) (state m.disk) (λ c. Shows s.volume.number s.volume.volume c ⊎ Shows s.volume.number next c)) where
+  module _ (next : Volume) (reply : Reply) (goes : GoesOn (state (device s)) (state m.disk) (λ c. Shows s.volume.number s.volume.volume c ⊎ Shows s.volume.number next c))
+      (kept : KeepsBlocks (IsNewIn (world_of n) (with_volume (world_of n) at (at_place p next)) at) (state (device s)) (state m.disk)) where
+    blocks_next : ChangesNewBlocks state (world_of n) (with_volume (world_of n) at (at_place p next)) n (record n { seats = slice_set n.seats at (moved s m) })
+    blocks_next = one_changed state (world_of n) (with_volume (world_of n) at (at_place p next)) n at s m was kept
+
     whole_next : GoesWhole state (suc at) (part (world_of n)) (part (with_volume (world_of n) at (at_place p next))) (devices n) (devices (record n { seats = slice_set n.seats at (moved s m) }))
     whole_next =
         volume_goes_whole state n h at s m was (with_volume (world_of n) at (at_place p next))
@@ -157,6 +171,7 @@ module _ {D : Type 0} (state : D → DiskState) (n : Node D) (h : StandsUp state
       );
       failed = λ disk count e. absurd (cc);
       unchanged = λ e. absurd (cc);
+      blocks = blocks_next;
       whole = GoesThrough.stays (suc at) whole_next;
     }
 
@@ -184,6 +199,7 @@ module _ {D : Type 0} (state : D → DiskState) (n : Node D) (h : StandsUp state
         left_open = left_open_volume state n h at p s m was place;
       };
       unchanged = λ e. absurd (cc);
+      blocks = blocks_next;
       whole = GoesThrough.stays (suc at) whole_next;
     }
 
@@ -195,6 +211,7 @@ module _ {D : Type 0} (state : D → DiskState) (n : Node D) (h : StandsUp state
       without_bytes = tt;
       failed = λ disk count e. absurd (cc);
       unchanged = λ e. node_same same;
+      blocks = blocks_next;
       whole = GoesThrough.stays (suc at) whole_next;
     }
 
@@ -203,6 +220,9 @@ module _ {D : Type 0} (state : D → DiskState) (n : Node D) (h : StandsUp state
     goes_next : (r : Result (Unit {0}) VolumeFault) → Commits state s.volume next r m → GoesOn (state (device s)) (state m.disk) (λ c. Shows s.volume.number s.volume.volume c ⊎ Shows s.volume.number next c)
     goes_next r c = weaker (state (device s)) (state m.disk) _ _ c.any_moment (λ x either. ⊎_elim (λ old. inl old.shows) (λ new. inr new.shows) either)
 
+    kept_next : (r : Result (Unit {0}) VolumeFault) → Commits state s.volume next r m → KeepsBlocks (IsNewIn (world_of n) (with_volume (world_of n) at (at_place p next)) at) (state (device s)) (state m.disk)
+    kept_next r c = keeps_fewer (IsNewIn (world_of n) (with_volume (world_of n) at (at_place p next)) at) NoBlock (λ k none. absurd none) (state (device s)) (state m.disk) c.blocks
+
     abbrev Answered : Result Reply NodeFault → Type 0
     Answered R = Acts state (Ok (record { reply = told reply; world = with_volume (world_of n) at (at_place p next) })) n R (record n { seats = slice_set n.seats at (moved s m) })
 
@@ -210,17 +230,17 @@ module _ {D : Type 0} (state : D → DiskState) (n : Node D) (h : StandsUp state
     unfolding fault_answer
     disk_failed f same c =
         subst (λ (x : VolumeFault). Answered (fault_answer disk (state m.disk).faults x)) (sym same)
-        (acts_failed next reply (goes_next (Err f) c) disk (state m.disk).faults named (c.counted (ap Err same)) refl
+        (acts_failed next reply (goes_next (Err f) c) (kept_next (Err f) c) disk (state m.disk).faults named (c.counted (ap Err same)) refl
         (fallen_commit state n h at p s m was place next reply (ap (λ (x : Mounted D). x.volume) (c.fault (ap Err same))) (ap (λ (x : Mounted D). x.after) (c.fault (ap Err same)))))
 
     memory_failed : (f : VolumeFault) → f ≡ faults.NoMemory → Commits state s.volume next (Err f) m → Answered (fault_answer disk (state m.disk).faults f)
     unfolding fault_answer
     memory_failed f same c =
         subst (λ (x : VolumeFault). Answered (fault_answer disk (state m.disk).faults x)) (sym same)
-        (acts_starved next reply (goes_next (Err f) c) (c.refused f refl (λ is_fault. let e = sym same ∙ is_fault in absurd (cc))))
+        (acts_starved next reply (goes_next (Err f) c) (kept_next (Err f) c) (c.refused f refl (λ is_fault. let e = sym same ∙ is_fault in absurd (cc))))
 
     allowed : (r : Result (Unit {0}) VolumeFault) → OnErr r ((r ≡ Err faults.DiskFault) ⊎ (r ≡ Err faults.NoMemory)) → Commits state s.volume next r m → Answered (event_answer reply disk (state m.disk).faults r)
-    allowed (Ok done) only c = acts_done next reply (goes_next (Ok done) c) (ap (λ (x : Mounted D). x.up) c.ok ∙ h.up.volumes at s was) (λ told. ap (λ (x : Mounted D). x.volume) c.ok) (ap (λ (x : Mounted D). zeroed_volume x.volume) c.ok)
+    allowed (Ok done) only c = acts_done next reply (goes_next (Ok done) c) (kept_next (Ok done) c) (ap (λ (x : Mounted D). x.up) c.ok ∙ h.up.volumes at s was) (λ told. ap (λ (x : Mounted D). x.volume) c.ok) (ap (λ (x : Mounted D). zeroed_volume x.volume) c.ok)
     allowed (Err f) (inl e) c = disk_failed f (let same : f ≡ faults.DiskFault = cc in same) c
     allowed (Err f) (inr e) c = memory_failed f (let same : f ≡ faults.NoMemory = cc in same) c
 
@@ -245,25 +265,35 @@ module _ {D : Type 0} (state : D → DiskState) (n : Node D) (h : StandsUp state
     write_goes : (r : Result (Unit {0}) VolumeFault) → Writes state block (replicate 4096 fill) r s.volume m → GoesOn (state (device s)) (state m.disk) (λ c. Shows s.volume.number s.volume.volume c ⊎ Shows s.volume.number (answers.written s.volume.volume block fill) c)
     write_goes r c = weaker (state (device s)) (state m.disk) _ _ c.any_moment (λ x old. inl old.shows)
 
-    wrote_fault : (f : VolumeFault) → f ≡ faults.DiskFault → Writes state block (replicate 4096 fill) (Err f) s.volume m → Wrote (fault_answer disk (state m.disk).faults f)
+    kept_write : write_refusal s.volume.volume block ≡ None → (r : Result (Unit {0}) VolumeFault) → Writes state block (replicate 4096 fill) r s.volume m
+        → KeepsBlocks (IsNewIn (world_of n) (with_volume (world_of n) at (at_place p (answers.written s.volume.volume block fill))) at) (state (device s)) (state m.disk)
+    kept_write none r c =
+        let v = s.volume.volume in
+        let long : length v.active ≡ v.logical = sym (length-map v.active tag_of) ∙ (h.node.seated at s was).kept.images.long (tags v.active) (inl refl) in
+        let past : nat_le v.logical block ≡ false = not_past (is_rw v.kind) (nat_le v.logical block) (used v == v.physical) none in
+        let within : block < v.logical = grind (arith, nat_tests) in
+        keeps_fewer (IsNewIn (world_of n) (with_volume (world_of n) at (at_place p (answers.written v block fill))) at) (λ k. k ≡ least_free v)
+        (write_is_new (world_of n) at p v block fill there (omega (arith, within, long)) (c.free none)) (state (device s)) (state m.disk) (c.blocks (least_free v) (c.free none))
+
+    wrote_fault : write_refusal s.volume.volume block ≡ None → (f : VolumeFault) → f ≡ faults.DiskFault → Writes state block (replicate 4096 fill) (Err f) s.volume m → Wrote (fault_answer disk (state m.disk).faults f)
     unfolding fault_answer
-    wrote_fault f same c =
+    wrote_fault none f same c =
         subst (λ (x : VolumeFault). Wrote (fault_answer disk (state m.disk).faults x)) (sym same)
-        (acts_failed (answers.written s.volume.volume block fill) replies.Done (write_goes (Err f) c) disk (state m.disk).faults named (c.counted (ap Err same)) refl
+        (acts_failed (answers.written s.volume.volume block fill) replies.Done (write_goes (Err f) c) (kept_write none (Err f) c) disk (state m.disk).faults named (c.counted (ap Err same)) refl
         (fallen_call state n h at p s m was place _ (ap (λ (x : Mounted D). x.volume) (c.fault (ap Err same))) (ap (λ (x : Mounted D). x.after) (c.fault (ap Err same)))))
 
-    wrote : (r : Result (Unit {0}) VolumeFault) → OnErr r (r ≡ Err faults.DiskFault) → Writes state block (replicate 4096 fill) r s.volume m → Wrote (event_answer replies.Done disk (state m.disk).faults r)
-    wrote (Ok done) only c =
+    wrote : write_refusal s.volume.volume block ≡ None → (r : Result (Unit {0}) VolumeFault) → OnErr r (r ≡ Err faults.DiskFault) → Writes state block (replicate 4096 fill) r s.volume m → Wrote (event_answer replies.Done disk (state m.disk).faults r)
+    wrote none (Ok done) only c =
         let ok = c.ok in
-        acts_done (answers.written s.volume.volume block fill) replies.Done (write_goes (Ok done) c) (ap (λ (x : Mounted D). x.up) ok.2 ∙ h.up.volumes at s was)
+        acts_done (answers.written s.volume.volume block fill) replies.Done (write_goes (Ok done) c) (kept_write none (Ok done) c) (ap (λ (x : Mounted D). x.up) ok.2 ∙ h.up.volumes at s was)
         (λ told. ap (λ (x : Mounted D). x.volume) ok.2 ∙ write_is s.volume.volume block fill ok.0 ok.5 (ok.3 (told at s was)))
         (ap (λ (x : Mounted D). zeroed_volume x.volume) ok.2 ∙ write_is_blank s.volume.volume block fill ok.0 ok.5)
-    wrote (Err f) only c = wrote_fault f (let same : f ≡ faults.DiskFault = cc in same) c
+    wrote none (Err f) only c = wrote_fault none f (let same : f ≡ faults.DiskFault = cc in same) c
 
-    write_by : (o : Option VolumeFault) (a : Answer) → Matches (world_of n) at p a o replies.Done (answers.written s.volume.volume block fill) → (r : Result (Unit {0}) VolumeFault) → RefusesOrFails o r → Writes state block (replicate 4096 fill) r s.volume m
+    write_by : (o : Option VolumeFault) → write_refusal s.volume.volume block ≡ o → (a : Answer) → Matches (world_of n) at p a o replies.Done (answers.written s.volume.volume block fill) → (r : Result (Unit {0}) VolumeFault) → RefusesOrFails o r → Writes state block (replicate 4096 fill) r s.volume m
         → Acts state a n (event_answer replies.Done disk (state m.disk).faults r) (record n { seats = slice_set n.seats at (moved s m) })
-    write_by None a matches r only c = subst (λ (b : Answer). Acts state b n (event_answer replies.Done disk (state m.disk).faults r) (record n { seats = slice_set n.seats at (moved s m) })) (sym (matches.does refl)) (wrote r only c)
-    write_by (Some f) a matches r only c =
+    write_by None e a matches r only c = subst (λ (b : Answer). Acts state b n (event_answer replies.Done disk (state m.disk).faults r) (record n { seats = slice_set n.seats at (moved s m) })) (sym (matches.does refl)) (wrote e r only c)
+    write_by (Some f) e a matches r only c =
         let g = matches.refuses f refl in
         let same : m ≡ s.volume = c.unchanged f only (not_failed f g.0 g.2) in
         subst (λ (b : Answer). Acts state b n (event_answer replies.Done disk (state m.disk).faults r) (record n { seats = slice_set n.seats at (moved s m) })) (sym g.1)
@@ -273,7 +303,7 @@ module _ {D : Type 0} (state : D → DiskState) (n : Node D) (h : StandsUp state
 
     pub write_acts : (a : Answer) → Matches (world_of n) at p a (write_refusal s.volume.volume block) replies.Done (answers.written s.volume.volume block fill) → (r : Result (Unit {0}) VolumeFault) → RefusesOrFails (write_refusal s.volume.volume block) r
         → Writes state block (replicate 4096 fill) r s.volume m → Acts state a n (event_answer replies.Done disk (state m.disk).faults r) (record n { seats = slice_set n.seats at (moved s m) })
-    write_acts a matches r only c = write_by (write_refusal s.volume.volume block) a matches r only c
+    write_acts a matches r only c = write_by (write_refusal s.volume.volume block) refl a matches r only c
 
 pub is_fault : (f : VolumeFault) → (f ≡ faults.DiskFault) ⊎ (f ≢ faults.DiskFault)
 is_fault faults.DiskFault = inl refl

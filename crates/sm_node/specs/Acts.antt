@@ -17,6 +17,7 @@ use Rattle.sm_node.specs.Nodes.{Node, world_of, IsUp}
 use Rattle.sm_node.specs.ButBytes.{IsRepliedButBytes}
 use Rattle.sm_node.specs.Pending.{world_ahead, NothingPending, IsLong, IsLeftOpen}
 use Rattle.sm_node.specs.Parts.{devices, part, AllTold}
+use Rattle.sm_node.specs.Blocks.{ChangesNewBlocks}
 
 -- ---- of the definitions' answer
 
@@ -100,7 +101,8 @@ pub data GoesThrough {D : Type 0} (state : D → DiskState) (before after : Up) 
 -- ---- the event
 
 -- Ok gives the answer's reply and world; Down says that a disk failed in an event that is no refusal; after NoMemory all is
--- as before. Whatever comes, every image since the event began shows the world before or after. What disks tell is a premise
+-- as before. Whatever comes, no block is changed but those that only the world after uses, and every image since the event began
+-- shows the world before or after. What disks tell is a premise
 -- of bytes alone: but for those of a read, of digests and of the world's blocks, what is replied and reached needs none.
 pub record Acts {D : Type 0} (state : D → DiskState) (a : Answer) (old : Node D) (result : Result Reply NodeFault) (new : Node D) : Type 0 where
   pub up : IfOk result (λ reply. IsUp new)
@@ -108,4 +110,5 @@ pub record Acts {D : Type 0} (state : D → DiskState) (a : Answer) (old : Node 
   pub without_bytes : IfOk result (λ reply. IsRepliedButBytes a reply × (blanked (world_of new) ≡ blanked (reached_of (world_of old) a)))
   pub failed : (disk : DiskNo) (count : ℕ) → result ≡ Err (Down disk count) → Fails state a disk count old new
   pub unchanged : result ≡ Err OutOfMemory → new ≡ old
+  pub blocks : ChangesNewBlocks state (world_of old) (reached_of (world_of old) a) old new
   pub whole : GoesThrough state (world_of old) (reached_of (world_of old) a) old new

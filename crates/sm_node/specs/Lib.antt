@@ -7,6 +7,7 @@ pub mod Parts
 pub mod Naming
 pub mod Moves
 pub mod ButBytes
+pub mod Blocks
 pub mod Acts
 pub mod Served
 pub mod Turning

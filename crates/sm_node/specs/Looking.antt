@@ -29,6 +29,7 @@ use Rattle.sm_node.specs.Parts.{devices, part, AllTold}
 use Rattle.sm_node.specs.Moves.{refusal_of, fault_answer}
 use Rattle.sm_node.specs.ButBytes.{LineButDigest, IsRepliedButBytes}
 use Rattle.sm_node.specs.Acts.{IsReplied, IsAllowed, reached_of, Fails}
+use Rattle.sm_node.specs.Blocks.{ChangesNewBlocks}
 use Rattle.sm_node.specs.Reading.{Reads}
 
 -- ---- the event
@@ -42,6 +43,7 @@ pub record Looks {D : Type 0} (state : D → DiskState) (a : Answer) (old : Node
   pub but_bytes : IfOk result (λ reply. IsRepliedButBytes a reply)
   pub failed : (disk : DiskNo) (count : ℕ) → result ≡ Err (Down disk count) → Fails state a disk count old new
   pub unchanged : result ≡ Err OutOfMemory → new ≡ old
+  pub blocks : ChangesNewBlocks state (world_of old) (reached_of (world_of old) a) old new
   pub whole : (commits : ℕ) × GoesWhole state commits (part (world_of old)) (part (reached_of (world_of old) a)) (devices old) (devices new)
 
 -- ---- calls

@@ -89,6 +89,7 @@ pub record Writes {D : Type 0} (state : D → DiskState) (at : ℕ) (content : L
   pub fault : r ≡ Err faults.DiskFault → n ≡ fallen m n.disk
   pub counted : r ≡ Err faults.DiskFault → IsCounted (state m.disk) (state n.disk)
   pub unchanged : (fault : VolumeFault) → r ≡ Err fault → (fault ≡ faults.DiskFault → ⊥) → n ≡ m
+  pub free : write_refusal m.volume at ≡ None → IsLeastFree m.volume (least_free m.volume)
   pub blocks : (number : ℕ) → IsLeastFree m.volume number → KeepsBlocks (λ k. k ≡ number) (state m.disk) (state n.disk)
   pub any_moment : GoesOn (state m.disk) (state n.disk) (Selects m.selected m.number m.volume)
 

@@ -24,7 +24,7 @@ returns-in-Ok-clause-ok g c =
     let acts = subst (λ r. Acts state a.0 n (first_of r) c.act.new.node) c.in-Ok.is a.2 in
     let sound = subst (λ (d : Option (Down _)). IsSoundNow d n) c.requires.up c.requires.sound in
     subst (λ (d : Option (Down _)). DoesOne state c.args.actor c.args.event.now c.in-Ok.replies.0 d n d c.act.new.node) (sym c.requires.up)
-    (one_done state c.blanked_stays_sound.ensures c.args.actor c.args.event.now n c.act.new.node c.requires.given sound a.0 a.1 c.in-Ok.replies.0 acts)
+    (one_done state c.blanked_stays_sound.ensures c.args.actor c.args.event.now n c.act.new.node c.requires.served c.requires.given sound a.0 a.1 c.in-Ok.replies.0 acts)
 
 pub returns-in-Err-Down-clause-ok : goal.returns-in-Err-Down-clause-ok
 returns-in-Err-Down-clause-ok g c =
@@ -37,4 +37,4 @@ returns-in-Err-Down-clause-ok g c =
     let x : Down _ = record { disk = disk; side = Before; actor = c.args.actor; event = c.of.result; node = c.of-before.result } in
     let sound = subst (λ (d : Option (Down _)). IsSoundNow d n) c.requires.up c.requires.sound in
     subst (λ (d : Option (Down _)). DoesOne state c.args.actor c.args.event.now (fault disk count) d n (Some x) c.act.new.node) (sym c.requires.up)
-    (one_failed state c.blanked_stays_sound.ensures c.args.actor c.args.event.now n c.act.new.node c.requires.given sound disk count x refl refl c.of.ensures c.of-before.ensures refl c.told.ensures.root c.told.ensures.node a.0 a.1 acts)
+    (one_failed state c.blanked_stays_sound.ensures c.args.actor c.args.event.now n c.act.new.node c.requires.served c.requires.given sound disk count x refl refl c.of.ensures c.of-before.ensures refl c.told.ensures.root c.told.ensures.node a.0 a.1 acts)

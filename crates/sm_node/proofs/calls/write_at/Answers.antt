@@ -20,6 +20,7 @@ returns-in-Ok g c = record {
       fault = c.write-done.ensures.fault;
       counted = c.write-done.ensures.counted;
       unchanged = c.write-done.ensures.unchanged;
+      free = c.write-done.ensures.free;
       blocks = c.write-done.ensures.blocks;
       any_moment = c.write-done.ensures.any_moment;
     },
@@ -42,6 +43,7 @@ returns-in-Err g c = record {
       fault = c.write-done.ensures.fault;
       counted = c.write-done.ensures.counted;
       unchanged = c.write-done.ensures.unchanged;
+      free = c.write-done.ensures.free;
       blocks = c.write-done.ensures.blocks;
       any_moment = c.write-done.ensures.any_moment;
     },

@@ -8,6 +8,7 @@ use Rattle.sm_node.specs.Parts.{AllTold}
 use Rattle.sm_core.specs.Kept.{Kept}
 use Rattle.sm_core.specs.Falling.{world_now}
 use Rattle.sm_core.specs.Doing.{Leads, GoesAcross, IsSaid}
+use Rattle.sm_core.specs.Written.{WritesOnly}
 use Rattle.sm_core.proofs.Entries.{same_kept}
 use Rattle.sm_core.proofs.catalogue.Catalogue.act.Goals as goal
 
@@ -31,6 +32,7 @@ returns-clause-one g c =
       leads = λ told. subst (λ (k : Kept _). Leads k.world (entry c.args.actor c.args.line e h.0) (world_now new.down new.node)) old
           (does.leads (subst (λ (k : Kept _). AllTold state k.node.seats) (sym old) told) c.args.line);
       across = subst (λ (k : Kept _). GoesAcross state k.world e k.node new.node) old does.across;
+      blocks = subst (λ (k : Kept _). WritesOnly state k.world e k.node new.node) old does.blocks;
       said = subst (λ (k : Kept _). IsSaid state k.world c.args.actor e h.0 k.node new.node (world_now new.down new.node)) old does.said;
     }) c.keep.ensures.kept
 
