@@ -19,20 +19,20 @@ use Rattle.sm_grammar.specs.declared.fault.ScriptFault.{ScriptFault}
 use Rattle.sm_grammar.specs.declared.table.Form.{Form}
 use Rattle.sm_grammar.specs.declared.table.Form.TheVariants as forms
 use Rattle.sm_grammar.specs.declared.table.OptionName.{OptionName}
-use Rattle.sm_grammar.specs.declared.table.OptionName.TheVariants.{Path, Disk, VolumeType, Blocks, Physical, Block, WriteCount, Fill, NewSnapshot, Snapshot, Label, Time}
+use Rattle.sm_grammar.specs.declared.table.OptionName.TheVariants.{Path, Disk, VolumeType, Blocks, Physical, Block, WriteCount, Fill, NewSnapshot, Snapshot, Label, Policy, PolicyType, RuleLabel, Keep, Preserve, SourcePath, DestinationPath, Time}
 use Rattle.sm_grammar.specs.declared.value.Value.{Value}
 use Rattle.sm_grammar.specs.Fault.{◌>>=◌}
 use Rattle.sm_grammar.specs.Table.{options_of, shape_of}
 use Rattle.sm_grammar.specs.Options.{value_given}
 use Rattle.sm_grammar.specs.Grammar.{is_skipped, is_below, too_few}
-use Rattle.sm_grammar.specs.Tasks.{path, snapshot, number, time, volume_type, snapshot_if_any, label_if_any, number_or, task_of}
+use Rattle.sm_grammar.specs.Tasks.{path, snapshot, number, time, volume_type, part, label, policy_type, snapshot_if_any, label_if_any, number_or, truth_or, task_of}
 use Rattle.sm_grammar.specs.Events.{write_at, next_of}
 use Rattle.sm_grammar.specs.Asked.{IsCommand, IsScripted, AsksScripted}
 use Rattle.sm_grammar.specs.Lines.{lines_of}
 use Rattle.sm_grammar.specs.Script.{parse}
 use Rattle.sm_grammar.specs.Spelling.{pair_of, SpellsTask}
 use Rattle.sm_grammar.specs.Spelled.{LinesSpell}
-use Rattle.sm_grammar.proofs.GivenLemmas.{AreTaken, values_taken, number_is, path_taken, name_taken, new_name_taken, time_taken, number_taken, number_or_taken, label_taken, some_name_taken, not_below}
+use Rattle.sm_grammar.proofs.GivenLemmas.{AreTaken, values_taken, number_is, path_behind, path_taken, policy_taken, rule_label_taken, policy_type_taken, name_taken, new_name_taken, time_taken, number_taken, number_or_taken, label_taken, some_name_taken, not_below}
 use Rattle.sm_grammar.proofs.ScriptLemmas.{script_spelled}
 
 -- ---- an event, a task
@@ -142,6 +142,41 @@ read_asks given taken =
       block_given = (number_taken forms.LabRead given Block 0 4294967295 block taken (2, omega arith, refl) refl c).1;
     }))))
 
+policy_asks : (given : OptionName → Option Value) → AreTaken forms.PolicyCreate given → IfOk (task_of forms.PolicyCreate given) AsksScripted
+unfolding task_of options_of IsCommand IsGiven
+policy_asks given taken =
+    through AsksScripted (part (given Policy)) _ (λ name a. through AsksScripted (policy_type (given PolicyType)) _ (λ kind b.
+    once_asks (events.CreatePolicy name kind) (policy_type_taken forms.PolicyCreate given kind taken (1, omega arith, refl) b)
+    (policy_taken forms.PolicyCreate given name taken (0, omega arith, refl) a)))
+
+rule_asks : (given : OptionName → Option Value) → AreTaken forms.PolicyAddRule given → IfOk (task_of forms.PolicyAddRule given) AsksScripted
+unfolding task_of options_of shape_of IsCommand IsGiven
+rule_asks given taken =
+    through AsksScripted (part (given Policy)) _ (λ name a. through AsksScripted (label (given RuleLabel)) _ (λ rule b. through AsksScripted (number (given Keep)) _ (λ keep c.
+    once_asks (events.AddRule name rule keep (truth_or false (given Preserve))) tt (record {
+      policy_given = policy_taken forms.PolicyAddRule given name taken (0, omega arith, refl) a;
+      label_given = rule_label_taken forms.PolicyAddRule given rule taken (1, omega arith, refl) b;
+      keep_given = (number_taken forms.PolicyAddRule given Keep 0 4294967295 keep taken (2, omega arith, refl) refl c).1;
+    }))))
+
+relate_asks : (given : OptionName → Option Value) → AreTaken forms.MirrorCreate given → IfOk (task_of forms.MirrorCreate given) AsksScripted
+unfolding task_of options_of shape_of IsCommand IsGiven
+relate_asks given taken =
+    through AsksScripted (path (given SourcePath)) _ (λ source a. through AsksScripted (path (given DestinationPath)) _ (λ destination b. through AsksScripted (part (given Policy)) _ (λ policy c.
+    once_asks (events.Relate source destination policy) tt (record {
+      source_given = path_behind forms.MirrorCreate given SourcePath source taken (0, omega arith, refl) refl a;
+      destination_given = path_behind forms.MirrorCreate given DestinationPath destination taken (1, omega arith, refl) refl b;
+      policy_given = policy_taken forms.MirrorCreate given policy taken (2, omega arith, refl) c;
+    }))))
+
+policies_ask : AsksScripted (Once events.ShowPolicies)
+unfolding IsCommand IsGiven
+policies_ask = once_asks events.ShowPolicies tt tt
+
+relations_ask : AsksScripted (Once events.ShowRelations)
+unfolding IsCommand IsGiven
+relations_ask = once_asks events.ShowRelations tt tt
+
 volumes_ask : AsksScripted (Once events.ShowVolumes)
 unfolding IsCommand IsGiven
 volumes_ask = once_asks events.ShowVolumes tt tt
@@ -154,6 +189,11 @@ form_asks forms.ClientWrite given taken enough = write_asks given taken
 form_asks forms.SnapshotCreate given taken enough = snap_asks given taken
 form_asks forms.SnapshotDelete given taken enough = unsnap_asks given taken
 form_asks forms.SnapshotShow given taken enough = show_asks given taken
+form_asks forms.PolicyCreate given taken enough = policy_asks given taken
+form_asks forms.PolicyAddRule given taken enough = rule_asks given taken
+form_asks forms.PolicyShow given taken enough = policies_ask
+form_asks forms.MirrorCreate given taken enough = relate_asks given taken
+form_asks forms.MirrorShow given taken enough = relations_ask
 form_asks forms.LabClock given taken enough = clock_asks given taken
 form_asks forms.LabCp given taken enough = cp_asks given taken
 form_asks forms.LabRead given taken enough = read_asks given taken

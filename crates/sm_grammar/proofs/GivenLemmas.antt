@@ -3,17 +3,19 @@ use Rattle.std.proofs.Common.{◌≡◌, ℕ, zero, suc, ◌<◌, ◌≤◌, tru
 use borrow.Author.Tests.{ltb-false}
 use Rattle.sm_base.specs.declared.limits.TheConstants.{LAST_SECOND}
 use Rattle.sm_model.specs.InRange.{IsPath, IsLabel, IsName, is_made_name}
-use Rattle.sm_base.specs.Name.{is_snapshot_name}
+use Rattle.sm_base.specs.Name.{is_part, is_label, is_snapshot_name}
+use Rattle.sm_base.specs.declared.numbers.PolicyKind.{PolicyKind}
+use Rattle.sm_base.specs.declared.numbers.PolicyKind.TheVariants.{AsyncMirror}
 use Rattle.sm_grammar.specs.declared.table.Form.{Form}
 use Rattle.sm_grammar.specs.declared.table.OptionName.{OptionName}
-use Rattle.sm_grammar.specs.declared.table.OptionName.TheVariants.{Path, NewSnapshot, Snapshot, Label, Time}
+use Rattle.sm_grammar.specs.declared.table.OptionName.TheVariants.{Path, NewSnapshot, Snapshot, Label, Policy, PolicyType, RuleLabel, Time}
 use Rattle.sm_grammar.specs.declared.table.Shape.TheVariants as shapes
 use Rattle.sm_grammar.specs.declared.value.Value.{Value}
 use Rattle.sm_grammar.specs.declared.value.Value.TheVariants as values
 use Rattle.sm_grammar.specs.Table.{options_of, option_text, shape_of}
 use Rattle.sm_grammar.specs.Options.{option_named, value_given}
 use Rattle.sm_grammar.specs.Grammar.{is_below}
-use Rattle.sm_grammar.specs.Tasks.{path, snapshot, number, time, snapshot_if_any, label_if_any, number_or}
+use Rattle.sm_grammar.specs.Tasks.{path, snapshot, number, time, part, label, policy_type, snapshot_if_any, label_if_any, number_or}
 use Rattle.sm_grammar.specs.Spelling.{Spelled, SpellsValue, pair_of, AreSpelled}
 use Rattle.sm_grammar.proofs.Taken.{ok_same}
 use Rattle.sm_grammar.proofs.OptionSpelled.{named}
@@ -68,13 +70,50 @@ time_is : (o : Option Value) (t : ℕ) → time o ≡ Ok t → o ≡ Some (value
 time_is (Some (values.Time s)) t e = ap (λ u. Some (values.Time u)) (ok_same s t e)
 time_is _ t e = absurd (cc)
 
+part_is : (o : Option Value) (name : List ℕ) → part o ≡ Ok name → o ≡ Some (values.Part name)
+part_is (Some (values.Part text)) name e = ap (λ t. Some (values.Part t)) (ok_same text name e)
+part_is _ name e = absurd (cc)
+
+label_is : (o : Option Value) (name : List ℕ) → label o ≡ Ok name → o ≡ Some (values.Label name)
+label_is (Some (values.Label text)) name e = ap (λ t. Some (values.Label t)) (ok_same text name e)
+label_is _ name e = absurd (cc)
+
+policy_type_is : (o : Option Value) (kind : PolicyKind) → policy_type o ≡ Ok kind → o ≡ Some (values.PolicyType kind)
+policy_type_is (Some (values.PolicyType k)) kind e = ap (λ t. Some (values.PolicyType t)) (ok_same k kind e)
+policy_type_is _ kind e = absurd (cc)
+
 -- ---- its range
+
+path_in : (p text : List ℕ) → SpellsValue shapes.Path text (values.Path p) → IsPath p
+path_in p text spells = let same : p ≡ text = let is = spells.1 in cc in rw same spells.0
+
+-- the path behind any option that takes one
+pub path_behind : (form : Form) (given : OptionName → Option Value) (o : OptionName) (p : List ℕ) → AreTaken form given → Contains (options_of form) o → shape_of o ≡ shapes.Path → path (given o) ≡ Ok p → IsPath p
+path_behind form given o p taken known shape e =
+    let s = taken o (values.Path p) known (path_is (given o) p e) in
+    path_in p s.0 (subst (λ sh. SpellsValue sh s.0 (values.Path p)) shape s.1)
 
 pub path_taken : (form : Form) (given : OptionName → Option Value) (p : List ℕ) → AreTaken form given → Contains (options_of form) Path → path (given Path) ≡ Ok p → IsPath p
 unfolding shape_of
-path_taken form given p taken known e =
-    let s = taken Path (values.Path p) known (path_is (given Path) p e) in
-    let same : p ≡ s.0 = let is = s.1.1 in cc in rw same s.1.0
+path_taken form given p taken known e = path_behind form given Path p taken known refl e
+
+pub policy_taken : (form : Form) (given : OptionName → Option Value) (name : List ℕ) → AreTaken form given → Contains (options_of form) Policy → part (given Policy) ≡ Ok name → is_part name ≡ true
+unfolding shape_of
+policy_taken form given name taken known e =
+    let s = taken Policy (values.Part name) known (part_is (given Policy) name e) in
+    let same : name ≡ s.0 = let is = s.1.1 in cc in rw same s.1.0
+
+pub rule_label_taken : (form : Form) (given : OptionName → Option Value) (name : List ℕ) → AreTaken form given → Contains (options_of form) RuleLabel → label (given RuleLabel) ≡ Ok name → is_label name ≡ true
+unfolding shape_of
+rule_label_taken form given name taken known e =
+    let s = taken RuleLabel (values.Label name) known (label_is (given RuleLabel) name e) in
+    let same : name ≡ s.0 = let is = s.1.1 in cc in rw same s.1.0
+
+pub policy_type_taken : (form : Form) (given : OptionName → Option Value) (kind : PolicyKind) → AreTaken form given → Contains (options_of form) PolicyType → policy_type (given PolicyType) ≡ Ok kind → kind ≡ AsyncMirror
+unfolding shape_of
+policy_type_taken form given kind taken known e =
+    let s = taken PolicyType (values.PolicyType kind) known (policy_type_is (given PolicyType) kind e) in
+    let is = s.1.1 in cc
 
 pub name_taken : (form : Form) (given : OptionName → Option Value) (name : List ℕ) → AreTaken form given → Contains (options_of form) Snapshot → snapshot (given Snapshot) ≡ Ok name → is_snapshot_name name ≡ true
 unfolding shape_of

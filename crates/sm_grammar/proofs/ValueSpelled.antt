@@ -37,3 +37,7 @@ value_given_so (shapes.Number low high) text value flag (n, number, bottom, top,
 value_given_so shapes.Time text value flag (t, spells, is) = rw (is, time_read text t spells) refl
 value_given_so shapes.VolumeType text value flag (inl (text_is, is)) = rw (is, text_is) refl
 value_given_so shapes.VolumeType text value flag (inr (text_is, is)) = rw (is, text_is) refl
+value_given_so shapes.Part text value flag spells = rw (spells.1, spells.0) refl
+value_given_so shapes.PolicyType text value flag spells = rw (spells.1, spells.0) refl
+value_given_so shapes.Truth text value flag (inl (text_is, is)) = rw (is, text_is) refl
+value_given_so shapes.Truth text value flag (inr (text_is, is)) = rw (is, text_is) refl

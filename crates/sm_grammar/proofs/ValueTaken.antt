@@ -4,8 +4,9 @@ use Rattle.std.proofs.lemmas.Bool.{and_parts}
 use Rattle.std.specs.Str.{bytes_eq}
 use Rattle.std.proofs.lemmas.Slice.Eq.{bytes_eq-Decides}
 use borrow.Author.Tests.{leb-true}
-use Rattle.sm_base.specs.Name.{is_path, is_label, is_snapshot_name}
+use Rattle.sm_base.specs.Name.{is_part, is_path, is_label, is_snapshot_name}
 use Rattle.sm_base.specs.declared.numbers.Kind.TheVariants.{Rw, Dp}
+use Rattle.sm_base.specs.declared.numbers.PolicyKind.TheVariants.{AsyncMirror}
 use Rattle.sm_grammar.specs.declared.fault.LineKind.TheVariants.{BadName, BadNumber, BadTime, BadChoice}
 use Rattle.sm_grammar.specs.declared.table.Shape.{Shape}
 use Rattle.sm_grammar.specs.declared.table.Shape.TheVariants as shapes
@@ -57,3 +58,8 @@ value_taken shapes.NewSnapshot text value flag e =
 value_taken (shapes.Number low high) text value flag e = number_taken low high text value e
 value_taken shapes.Time text value flag e = time_taken text value e
 value_taken shapes.VolumeType text value flag e = choice_taken (codes "rw") (codes "dp") text (values.VolumeType Rw) (values.VolumeType Dp) value e
+value_taken shapes.Part text value flag e = let c = not_second (is_part text) BadName (Ok (values.Part text)) value e in (c.0, same (values.Part text) value c.1)
+value_taken shapes.PolicyType text value flag e =
+    let c = not_second (bytes_eq text (codes "async-mirror")) BadChoice (Ok (values.PolicyType AsyncMirror)) value e in
+    ((bytes_eq-Decides text (codes "async-mirror")).0 c.0, same (values.PolicyType AsyncMirror) value c.1)
+value_taken shapes.Truth text value flag e = choice_taken (codes "true") (codes "false") text (values.Truth true) (values.Truth false) value e

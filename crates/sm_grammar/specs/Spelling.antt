@@ -1,8 +1,9 @@
 -- How a line spells what it asks for: the grammar read the other way.
 use Rattle.std.specs.Prelude.{◌≡◌, ◌⊎◌, ℕ, ◌≤◌, ◌++◌, true, false, if◌then◌else◌, List, [], ◌∷◌, length, map, flat_map, Contains, Ok, codes, nat_eq}
 use Rattle.std.specs.List.{list_all, list_any, starts_with}
-use Rattle.sm_base.specs.Name.{is_path, is_label, is_snapshot_name}
+use Rattle.sm_base.specs.Name.{is_part, is_path, is_label, is_snapshot_name}
 use Rattle.sm_base.specs.declared.numbers.Kind.TheVariants.{Rw, Dp}
+use Rattle.sm_base.specs.declared.numbers.PolicyKind.TheVariants.{AsyncMirror}
 use Rattle.sm_grammar.specs.declared.limits.TheConstants.{LONGEST_LINE}
 use Rattle.sm_grammar.specs.declared.command.Task.{Task}
 use Rattle.sm_grammar.specs.declared.given.Pair.{Pair}
@@ -33,6 +34,9 @@ SpellsValue shapes.NewSnapshot text value = (starts_with nat_eq text (codes "sna
 SpellsValue (shapes.Number low high) text value = (n : ℕ) × SpellsNumber text n × (low ≤ n) × (n ≤ high) × (value ≡ values.Number n)
 SpellsValue shapes.Time text value = (t : ℕ) × SpellsTime text t × (value ≡ values.Time t)
 SpellsValue shapes.VolumeType text value = IsChoice (codes "rw") (values.VolumeType Rw) (codes "dp") (values.VolumeType Dp) text value
+SpellsValue shapes.Part text value = (is_part text ≡ true) × (value ≡ values.Part text)
+SpellsValue shapes.PolicyType text value = (text ≡ codes "async-mirror") × (value ≡ values.PolicyType AsyncMirror)
+SpellsValue shapes.Truth text value = IsChoice (codes "true") (values.Truth true) (codes "false") (values.Truth false) text value
 
 -- an option of a line, its value and the word that stands for it
 pub record Spelled : Type 0 where

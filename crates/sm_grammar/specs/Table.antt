@@ -5,7 +5,7 @@ use Rattle.sm_grammar.specs.declared.limits.TheConstants.{MOST_WRITES}
 use Rattle.sm_grammar.specs.declared.table.Form.{Form}
 use Rattle.sm_grammar.specs.declared.table.Form.TheVariants as forms
 use Rattle.sm_grammar.specs.declared.table.OptionName.{OptionName}
-use Rattle.sm_grammar.specs.declared.table.OptionName.TheVariants.{Path, Disk, VolumeType, Blocks, Physical, Block, WriteCount, Fill, NewSnapshot, Snapshot, Label, Time}
+use Rattle.sm_grammar.specs.declared.table.OptionName.TheVariants.{Path, Disk, VolumeType, Blocks, Physical, Block, WriteCount, Fill, NewSnapshot, Snapshot, Label, Policy, PolicyType, RuleLabel, Keep, Preserve, SourcePath, DestinationPath, Time}
 use Rattle.sm_grammar.specs.declared.table.Shape.{Shape}
 use Rattle.sm_grammar.specs.declared.table.Shape.TheVariants as shapes
 
@@ -16,6 +16,11 @@ form_text forms.ClientWrite = codes "client write"
 form_text forms.SnapshotCreate = codes "snapshot create"
 form_text forms.SnapshotDelete = codes "snapshot delete"
 form_text forms.SnapshotShow = codes "snapshot show"
+form_text forms.PolicyCreate = codes "snapmirror policy create"
+form_text forms.PolicyAddRule = codes "snapmirror policy add-rule"
+form_text forms.PolicyShow = codes "snapmirror policy show"
+form_text forms.MirrorCreate = codes "snapmirror create"
+form_text forms.MirrorShow = codes "snapmirror show"
 form_text forms.LabClock = codes "lab clock"
 form_text forms.LabCp = codes "lab cp"
 form_text forms.LabRead = codes "lab read"
@@ -23,6 +28,7 @@ form_text forms.LabRead = codes "lab read"
 unfoldable pub all_forms : List Form
 all_forms =
     forms.VolumeCreate ∷ forms.VolumeShow ∷ forms.ClientWrite ∷ forms.SnapshotCreate ∷ forms.SnapshotDelete ∷ forms.SnapshotShow ∷
+    forms.PolicyCreate ∷ forms.PolicyAddRule ∷ forms.PolicyShow ∷ forms.MirrorCreate ∷ forms.MirrorShow ∷
     forms.LabClock ∷ forms.LabCp ∷ forms.LabRead ∷ []
 
 unfoldable pub options_of : Form → List OptionName
@@ -32,6 +38,11 @@ options_of forms.ClientWrite = Path ∷ Block ∷ WriteCount ∷ Fill ∷ []
 options_of forms.SnapshotCreate = Path ∷ NewSnapshot ∷ Label ∷ []
 options_of forms.SnapshotDelete = Path ∷ Snapshot ∷ []
 options_of forms.SnapshotShow = Path ∷ []
+options_of forms.PolicyCreate = Policy ∷ PolicyType ∷ []
+options_of forms.PolicyAddRule = Policy ∷ RuleLabel ∷ Keep ∷ Preserve ∷ []
+options_of forms.PolicyShow = []
+options_of forms.MirrorCreate = SourcePath ∷ DestinationPath ∷ Policy ∷ []
+options_of forms.MirrorShow = []
 options_of forms.LabClock = Time ∷ []
 options_of forms.LabCp = Path ∷ []
 options_of forms.LabRead = Path ∷ Snapshot ∷ Block ∷ []
@@ -48,6 +59,13 @@ option_text Fill = codes "-fill"
 option_text NewSnapshot = codes "-snapshot"
 option_text Snapshot = codes "-snapshot"
 option_text Label = codes "-label"
+option_text Policy = codes "-policy"
+option_text PolicyType = codes "-type"
+option_text RuleLabel = codes "-snapmirror-label"
+option_text Keep = codes "-keep"
+option_text Preserve = codes "-preserve"
+option_text SourcePath = codes "-source-path"
+option_text DestinationPath = codes "-destination-path"
 option_text Time = codes "-time"
 
 -- a number within its range, both ends included, or of 32 bits
@@ -70,4 +88,11 @@ shape_of Fill = number_from 0 255
 shape_of NewSnapshot = shapes.NewSnapshot
 shape_of Snapshot = shapes.Snapshot
 shape_of Label = shapes.Label
+shape_of Policy = shapes.Part
+shape_of PolicyType = shapes.PolicyType
+shape_of RuleLabel = shapes.Label
+shape_of Keep = a_number
+shape_of Preserve = shapes.Truth
+shape_of SourcePath = shapes.Path
+shape_of DestinationPath = shapes.Path
 shape_of Time = shapes.Time

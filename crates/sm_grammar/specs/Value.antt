@@ -1,8 +1,9 @@
 -- The values behind the options.
-use Rattle.std.specs.Prelude.{ℕ, ◌&&◌, Bool, nat_le, if◌then◌else◌, List, Result, Ok, Err, ok_or, option_map, codes, nat_eq, bytes_eq}
+use Rattle.std.specs.Prelude.{ℕ, ◌&&◌, Bool, true, false, nat_le, if◌then◌else◌, List, Result, Ok, Err, ok_or, option_map, codes, nat_eq, bytes_eq}
 use Rattle.std.specs.List.{starts_with}
-use Rattle.sm_base.specs.Name.{is_path, is_label, is_snapshot_name}
+use Rattle.sm_base.specs.Name.{is_part, is_path, is_label, is_snapshot_name}
 use Rattle.sm_base.specs.declared.numbers.Kind.TheVariants.{Rw, Dp}
+use Rattle.sm_base.specs.declared.numbers.PolicyKind.TheVariants.{AsyncMirror}
 use Rattle.sm_grammar.specs.declared.fault.LineKind.{LineKind}
 use Rattle.sm_grammar.specs.declared.fault.LineKind.TheVariants.{BadName, BadNumber, BadTime, BadChoice}
 use Rattle.sm_grammar.specs.declared.table.Shape.{Shape}
@@ -39,6 +40,16 @@ a_choice first x second y text = if bytes_eq text first then Ok x else (if bytes
 abbrev pub a_volume_type : List ℕ → Result Value LineKind
 a_volume_type text = a_choice (codes "rw") (values.VolumeType Rw) (codes "dp") (values.VolumeType Dp) text
 
+abbrev pub a_part : List ℕ → Result Value LineKind
+a_part text = if is_part text then Ok (values.Part text) else Err BadName
+
+-- a mirror's policy, and so far no other
+abbrev pub a_policy_type : List ℕ → Result Value LineKind
+a_policy_type text = if bytes_eq text (codes "async-mirror") then Ok (values.PolicyType AsyncMirror) else Err BadChoice
+
+abbrev pub a_truth : List ℕ → Result Value LineKind
+a_truth text = a_choice (codes "true") (values.Truth true) (codes "false") (values.Truth false) text
+
 -- a time of the years 1970 to 9999
 abbrev pub a_time : List ℕ → Result Value LineKind
 a_time text = ok_or (option_map (λ t. values.Time t) (time_of text)) BadTime
@@ -53,3 +64,6 @@ value_of shapes.NewSnapshot text = a_new_snapshot text
 value_of (shapes.Number low high) text = a_number low high text
 value_of shapes.Time text = a_time text
 value_of shapes.VolumeType text = a_volume_type text
+value_of shapes.Part text = a_part text
+value_of shapes.PolicyType text = a_policy_type text
+value_of shapes.Truth text = a_truth text

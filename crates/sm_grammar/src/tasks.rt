@@ -86,6 +86,39 @@ fn snapshot_show(alloc: Global, given: &Given) -> Result<Task, LineFault>
 }
 
 #[tactic(auto, unfolding(crate::specs::Tasks::task_of), using(crate::proofs::FaultLemmas::fails))]
+fn policy_create(alloc: Global, given: &Given) -> Result<Task, LineFault>
+    ensures { Answers result (task_of forms.PolicyCreate (value_given given.now)) }
+{
+    Ok(Task::Once(Event::CreatePolicy {
+        name: given.part(alloc, OptionName::Policy)?,
+        kind: given.policy_type(OptionName::PolicyType)?,
+    }))
+}
+
+#[tactic(auto, unfolding(crate::specs::Tasks::task_of), using(crate::proofs::FaultLemmas::fails))]
+fn policy_add_rule(alloc: Global, given: &Given) -> Result<Task, LineFault>
+    ensures { Answers result (task_of forms.PolicyAddRule (value_given given.now)) }
+{
+    Ok(Task::Once(Event::AddRule {
+        name: given.part(alloc, OptionName::Policy)?,
+        label: given.label(alloc, OptionName::RuleLabel)?,
+        keep: given.number(OptionName::Keep)?,
+        preserve: given.truth_or(false, OptionName::Preserve),
+    }))
+}
+
+#[tactic(auto, unfolding(crate::specs::Tasks::task_of), using(crate::proofs::FaultLemmas::fails))]
+fn mirror_create(alloc: Global, given: &Given) -> Result<Task, LineFault>
+    ensures { Answers result (task_of forms.MirrorCreate (value_given given.now)) }
+{
+    Ok(Task::Once(Event::Relate {
+        source: given.path(alloc, OptionName::SourcePath)?,
+        destination: given.path(alloc, OptionName::DestinationPath)?,
+        policy: given.part(alloc, OptionName::Policy)?,
+    }))
+}
+
+#[tactic(auto, unfolding(crate::specs::Tasks::task_of), using(crate::proofs::FaultLemmas::fails))]
 fn lab_read(alloc: Global, given: &Given) -> Result<Task, LineFault>
     ensures { Answers result (task_of forms.LabRead (value_given given.now)) }
 {
@@ -107,6 +140,11 @@ pub fn task_of(alloc: Global, form: Form, given: &Given) -> Result<Task, LineFau
         Form::ClientWrite => client_write(alloc, given),
         Form::SnapshotCreate => snapshot_create(alloc, given),
         Form::SnapshotDelete => snapshot_delete(alloc, given),
+        Form::PolicyCreate => policy_create(alloc, given),
+        Form::PolicyAddRule => policy_add_rule(alloc, given),
+        Form::PolicyShow => Ok(Task::Once(Event::ShowPolicies)),
+        Form::MirrorCreate => mirror_create(alloc, given),
+        Form::MirrorShow => Ok(Task::Once(Event::ShowRelations)),
         Form::LabClock => lab_clock(given),
         Form::LabCp => lab_cp(alloc, given),
         Form::SnapshotShow => snapshot_show(alloc, given),

@@ -1,13 +1,13 @@
 ghost use Rattle.std.specs.Prelude.{◌≡◌};
 ghost use Rattle.sm_grammar.specs.Fault.{Answers};
 ghost use Rattle.sm_grammar.specs.Options.{value_given};
-ghost use Rattle.sm_grammar.specs.Tasks.{path, snapshot, number, time, volume_type, snapshot_if_any, label_if_any, number_or};
+ghost use Rattle.sm_grammar.specs.Tasks.{path, snapshot, number, time, volume_type, part, label, policy_type, snapshot_if_any, label_if_any, number_or, truth_or};
 
 use crate::fault::{LineFault, LineKind};
 use crate::given::Given;
 use crate::table::OptionName;
 use crate::value::Value;
-use sm_base::{Kind, Label, Path, SnapName};
+use sm_base::{Kind, Label, Path, Path1, PolicyKind, SnapName};
 use std::alloc::Global;
 
 const MISSING: LineFault = LineFault::Bad(LineKind::MissingOption);
@@ -59,6 +59,33 @@ impl Given {
         }
     }
 
+    pub fn part(&self, alloc: Global, option: OptionName) -> Result<Path1, LineFault>
+        ensures { Answers result (part (value_given self.now option)) }
+    {
+        match self.value(option) {
+            Some(Value::Part(name)) => Ok(name.copy(alloc)?),
+            _ => Err(MISSING),
+        }
+    }
+
+    pub fn label(&self, alloc: Global, option: OptionName) -> Result<Label, LineFault>
+        ensures { Answers result (label (value_given self.now option)) }
+    {
+        match self.value(option) {
+            Some(Value::Label(label)) => Ok(label.copy(alloc)?),
+            _ => Err(MISSING),
+        }
+    }
+
+    pub fn policy_type(&self, option: OptionName) -> Result<PolicyKind, LineFault>
+        ensures { Answers result (policy_type (value_given self.now option)) }
+    {
+        match self.value(option) {
+            Some(Value::PolicyType(kind)) => Ok(*kind),
+            _ => Err(MISSING),
+        }
+    }
+
     pub fn snapshot_if_any(
         &self,
         alloc: Global,
@@ -90,6 +117,15 @@ impl Given {
     {
         match self.value(option) {
             Some(Value::Number(number)) => *number,
+            _ => other,
+        }
+    }
+
+    pub fn truth_or(&self, other: bool, option: OptionName) -> bool
+        ensures { result ≡ truth_or other (value_given self.now option) }
+    {
+        match self.value(option) {
+            Some(Value::Truth(truth)) => *truth,
             _ => other,
         }
     }

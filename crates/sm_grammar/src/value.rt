@@ -1,13 +1,13 @@
 ghost use Rattle.std.specs.Prelude.{◌≡◌, IfOk, codes, nat_eq};
 ghost use Rattle.std.specs.List.{starts_with};
 ghost use Rattle.sm_grammar.specs.Fault.{Answers};
-ghost use Rattle.sm_grammar.specs.Value.{a_path, a_label, a_snapshot, a_new_snapshot, a_number, a_time, a_volume_type, is_reserved, value_of};
+ghost use Rattle.sm_grammar.specs.Value.{a_path, a_label, a_snapshot, a_new_snapshot, a_number, a_time, a_volume_type, a_part, a_policy_type, a_truth, is_reserved, value_of};
 
 use crate::fault::{LineFault, LineKind};
 use crate::number::read_within;
 use crate::table::Shape;
 use crate::time::time_of;
-use sm_base::{Kind, Label, NameFault, Path, SnapName};
+use sm_base::{Kind, Label, NameFault, Path, Path1, PolicyKind, SnapName};
 use std::alloc::Global;
 
 /// The value of an option.
@@ -21,6 +21,9 @@ pub enum Value {
     Number(u32),
     Time(u64),
     VolumeType(Kind),
+    Part(Path1),
+    PolicyType(PolicyKind),
+    Truth(bool),
 }
 
 fn read_path(alloc: Global, text: &[u8]) -> Result<Value, LineFault>
@@ -98,6 +101,38 @@ fn read_volume_type(text: &[u8]) -> Result<Value, LineFault>
     Err(LineFault::Bad(LineKind::BadChoice))
 }
 
+fn read_part(alloc: Global, text: &[u8]) -> Result<Value, LineFault>
+    ensures { Answers result (a_part text.now) }
+{
+    match Path1::read(alloc, text) {
+        Ok(name) => Ok(Value::Part(name)),
+        Err(NameFault::BadName) => Err(LineFault::Bad(LineKind::BadName)),
+        Err(NameFault::NoMemory) => Err(LineFault::NoMemory),
+    }
+}
+
+/// The word `vault` is none yet: no vault's policy is opened.
+fn read_policy_type(text: &[u8]) -> Result<Value, LineFault>
+    ensures { Answers result (a_policy_type text.now) }
+{
+    if text == b"async-mirror".as_slice() {
+        return Ok(Value::PolicyType(PolicyKind::AsyncMirror));
+    }
+    Err(LineFault::Bad(LineKind::BadChoice))
+}
+
+fn read_truth(text: &[u8]) -> Result<Value, LineFault>
+    ensures { Answers result (a_truth text.now) }
+{
+    if text == b"true".as_slice() {
+        return Ok(Value::Truth(true));
+    }
+    if text == b"false".as_slice() {
+        return Ok(Value::Truth(false));
+    }
+    Err(LineFault::Bad(LineKind::BadChoice))
+}
+
 /// What a word stands for behind an option.
 #[tactic(auto, unfolding(crate::specs::Value::value_of))]
 pub fn read_value(alloc: Global, shape: Shape, text: &[u8]) -> Result<Value, LineFault>
@@ -112,5 +147,8 @@ pub fn read_value(alloc: Global, shape: Shape, text: &[u8]) -> Result<Value, Lin
         Shape::Number { low, high } => read_number(low, high, text),
         Shape::Time => read_time(text),
         Shape::VolumeType => read_volume_type(text),
+        Shape::Part => read_part(alloc, text),
+        Shape::PolicyType => read_policy_type(text),
+        Shape::Truth => read_truth(text),
     }
 }

@@ -25,12 +25,18 @@ impl Numbers {
 }
 
 /// Pieces of lines, good and bad.
-const PIECES: [&[u8]; 24] = [
+const PIECES: [&[u8]; 30] = [
     b"volume create",
     b"client write",
     b"snapshot create",
     b"lab clock",
     b"lab read",
+    b"snapmirror policy add-rule",
+    b"snapmirror create",
+    b"-policy",
+    b"-keep",
+    b"-preserve",
+    b"true",
     b"-path",
     b"s:a",
     b"-block",
@@ -55,7 +61,7 @@ const PIECES: [&[u8]; 24] = [
 fn pieces(alloc: Global, numbers: &mut Numbers) -> Result<Vec<u8>, Fail> {
     let mut text = Vec::new(alloc);
     for _ in 0..40u32 {
-        let at = numbers.below(24) as usize;
+        let at = numbers.below(30) as usize;
         if let Some(piece) = PIECES.get(at) {
             text.extend_from_slice(piece)?;
         }

@@ -1,5 +1,5 @@
 // What the lines of each command ask for.
-use sm_base::{DiskNo, Refusal};
+use sm_base::{DiskNo, PolicyKind, Refusal};
 use sm_grammar::{Command, read_script};
 use sm_model::{Event, Reply};
 use std::alloc::Global;
@@ -11,7 +11,7 @@ struct Good {
     asks: &'static str,
 }
 
-const GOOD: [Good; 30] = [
+const GOOD: [Good; 41] = [
     Good {
         line: "volume create -path s:a -disk 1 -type rw -blocks 4 -physical 8",
         asks: "create s:a disk=1 rw 4/8;",
@@ -125,6 +125,50 @@ const GOOD: [Good; 30] = [
         asks: "read s:a snapmirror.1.2 0;",
     },
     Good {
+        line: "snapmirror policy create -policy m -type async-mirror",
+        asks: "policy m async-mirror;",
+    },
+    Good {
+        line: "snapmirror  policy\tcreate -type async-mirror -policy A_1",
+        asks: "policy A_1 async-mirror;",
+    },
+    Good {
+        line: "snapmirror policy add-rule -policy m -snapmirror-label all_source_snapshots -keep 1",
+        asks: "rule m all_source_snapshots 1 false;",
+    },
+    Good {
+        line: "snapmirror policy add-rule -preserve true -keep 0000000251 -snapmirror-label a.b-c_1 -policy m",
+        asks: "rule m a.b-c_1 251 true;",
+    },
+    Good {
+        line: "snapmirror policy add-rule -policy m -preserve false -snapmirror-label -keep -keep 4294967295",
+        asks: "rule m -keep 4294967295 false;",
+    },
+    Good {
+        line: "snapmirror policy add-rule -policy m -snapmirror-label daily -keep 0",
+        asks: "rule m daily 0 false;",
+    },
+    Good {
+        line: "snapmirror policy show",
+        asks: "show policies;",
+    },
+    Good {
+        line: "snapmirror create -source-path s:a -destination-path s:b -policy m",
+        asks: "relate s:a s:b by m;",
+    },
+    Good {
+        line: "snapmirror create -policy m -destination-path s:b -source-path s:a",
+        asks: "relate s:a s:b by m;",
+    },
+    Good {
+        line: "snapmirror create -source-path s:a -destination-path s:a -policy 1",
+        asks: "relate s:a s:a by 1;",
+    },
+    Good {
+        line: "\tsnapmirror \t show ",
+        asks: "show relationships;",
+    },
+    Good {
         line: "# snapshot create",
         asks: "",
     },
@@ -133,6 +177,13 @@ const GOOD: [Good; 30] = [
         asks: "",
     },
 ];
+
+fn kind_word(kind: PolicyKind) -> &'static str {
+    match kind {
+        PolicyKind::AsyncMirror => "async-mirror",
+        PolicyKind::Vault => "vault",
+    }
+}
 
 fn tell(told: &mut String, event: &Event) -> Result<(), Fail> {
     match event {
@@ -160,6 +211,20 @@ fn tell(told: &mut String, event: &Event) -> Result<(), Fail> {
         } => write!(told, "snapshot {path} {name} label=-;")?,
         Event::Unsnap { path, name } => write!(told, "delete {path} {name};")?,
         Event::ShowSnaps { path } => write!(told, "show {path};")?,
+        Event::CreatePolicy { name, kind } => write!(told, "policy {name} {};", kind_word(*kind))?,
+        Event::AddRule {
+            name,
+            label,
+            keep,
+            preserve,
+        } => write!(told, "rule {name} {label} {keep} {preserve};")?,
+        Event::ShowPolicies => write!(told, "show policies;")?,
+        Event::Relate {
+            source,
+            destination,
+            policy,
+        } => write!(told, "relate {source} {destination} by {policy};")?,
+        Event::ShowRelations => write!(told, "show relationships;")?,
         Event::Clock { time } => write!(told, "clock {time};")?,
         Event::Cp { path } => write!(told, "cp {path};")?,
         Event::Read {
@@ -219,7 +284,7 @@ fn commands_have_the_numbers_of_their_lines(rt: HostRuntime) -> Result<(), Fail>
     }
     assert!(rt; text.len() < 10_000);
     let commands = read_script(rt.alloc(), text.as_bytes())?.into_commands();
-    assert_eq!(rt; commands.len(), 28);
+    assert_eq!(rt; commands.len(), 39);
     let mut line = 3u32;
     for command in commands.iter() {
         assert_eq!(rt; command.line(), line);
