@@ -1,5 +1,5 @@
 mod Replies
-mod Coming
+pub mod Coming
 mod Commands
 mod Scripted
 mod Reports
