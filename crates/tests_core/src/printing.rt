@@ -1,9 +1,7 @@
 // Scripts with what they print.
-use crate::disks::{opened, run};
+use crate::disks::printed;
 use sm_base::limits::SLOTS_END;
 use sm_memdisk::MemDisk;
-use sm_model::OpenKind;
-use sm_report::entry_text;
 use std::alloc::Global;
 use std::test::Fail;
 
@@ -102,18 +100,6 @@ fn disks_of(alloc: Global, row: &Row) -> Result<Vec<MemDisk>, Fail> {
     Ok(disks)
 }
 
-fn printed(alloc: Global, row: &Row) -> Result<String, Fail> {
-    let Some(mut catalogue) = opened(alloc, disks_of(alloc, row)?) else {
-        return Err(OpenKind::Fault)?;
-    };
-    run(alloc, &mut catalogue, row.script)??;
-    let mut text = String::new(alloc);
-    for entry in catalogue.entries() {
-        text.push_str(&entry_text(alloc, entry)?)?;
-    }
-    Ok(text)
-}
-
 fn expected(alloc: Global, row: &Row) -> Result<String, Fail> {
     let mut text = String::new(alloc);
     text.push_str(row.first)?;
@@ -127,8 +113,8 @@ fn expected(alloc: Global, row: &Row) -> Result<String, Fail> {
 #[test]
 fn scripts_print_what_is_written_beside_them(rt: HostRuntime) -> Result<(), Fail> {
     for row in ROWS {
-        let told = printed(rt.alloc(), row)?;
-        assert_eq!(rt; told, expected(rt.alloc(), row)?);
+        let told = printed(rt.alloc(), disks_of(rt.alloc(), row)?, row.script)?;
+        assert_eq!(rt; told, Some(expected(rt.alloc(), row)?));
     }
     Ok(())
 }

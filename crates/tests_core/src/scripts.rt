@@ -10,7 +10,7 @@ use std::alloc::Global;
 use std::test::Fail;
 
 // A catalogue of blank disks, none where a disk fails in opening: the call of that number of that disk fails.
-fn opened_failing(
+pub fn opened_failing(
     alloc: Global,
     disk: usize,
     call: u64,
@@ -38,7 +38,7 @@ fn word(reply: &Reply) -> &'static str {
 }
 
 // Eight events in seven lines.
-fn script() -> &'static str {
+pub fn script() -> &'static str {
     "\
 volume create -path s:a -disk 1 -type rw -blocks 4 -physical 6
 volume create -path s:a -disk 1 -type rw -blocks 4 -physical 6
@@ -128,12 +128,12 @@ fn a_fault_is_an_entry_and_the_run_goes_on(rt: HostRuntime) -> Result<(), Fail> 
 }
 
 // As many events as a line has.
-fn many() -> &'static str {
+pub fn many() -> &'static str {
     "client write -path s:b -block 0 -fill 0 -count 4096"
 }
 
 // Runs the text so many times; how often all its commands were done.
-fn done_of(
+pub fn done_of(
     alloc: Global,
     catalogue: &mut Catalogue<MemDisk>,
     text: &str,

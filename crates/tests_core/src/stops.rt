@@ -1,12 +1,11 @@
 // Disks that fail or stop at any of their calls: what they spell afterwards is the world before the event or the one
 // after it.
-use crate::disks::{blank_disks, opened, run};
+use crate::disks::{blank_disks, opened, printed, run};
 use sm_base::Refusal;
 use sm_core::Catalogue;
 use sm_disk::Disk;
 use sm_memdisk::{Image, MemDisk};
 use sm_model::{Entry, OpenKind, Reply};
-use sm_report::entry_text;
 use std::alloc::Global;
 use std::test::Fail;
 
@@ -20,6 +19,10 @@ fn lines() -> &'static [&'static str] {
         "lab clock -time 2026-01-01T00:00:00Z",
         "snapshot create -path s:a -snapshot s2 -label daily",
         "snapshot delete -path s:a -snapshot s1",
+        "volume create -path s:b -disk 2 -type dp -blocks 4 -physical 6",
+        "snapmirror policy create -policy m -type async-mirror",
+        "snapmirror policy add-rule -policy m -snapmirror-label all_source_snapshots -keep 1",
+        "snapmirror create -source-path s:a -destination-path s:b -policy m",
     ]
 }
 
@@ -32,23 +35,12 @@ lab read -path s:a -block 3
 lab read -path s:a -snapshot s1 -block 3
 lab read -path s:a -snapshot s2 -block 3
 lab clock -time 1970-01-01T00:00:00Z
+snapmirror policy show
+snapmirror show
 "
 }
 
-// What the disks spell, as a text; none where they are not opened.
-fn shown(alloc: Global, disks: Vec<MemDisk>) -> Result<Option<String>, Fail> {
-    let Some(mut catalogue) = opened(alloc, disks) else {
-        return Ok(None);
-    };
-    run(alloc, &mut catalogue, view())??;
-    let mut text = String::new(alloc);
-    for entry in catalogue.entries() {
-        text.push_str(&entry_text(alloc, entry)?)?;
-    }
-    Ok(Some(text))
-}
-
-// What the disks spell after a restart that leaves this in what was pending.
+// What the disks spell after a restart that leaves this in what was pending, as a text; none where they are not opened.
 fn spelled(
     alloc: Global,
     catalogue: Catalogue<MemDisk>,
@@ -59,7 +51,7 @@ fn spelled(
         disk.choose(left);
         disk.restart();
     }
-    shown(alloc, disks)
+    printed(alloc, disks, view())
 }
 
 // The line in which a disk fails, none where all are done.
