@@ -1,0 +1,6 @@
+pub mod CommitLemmas
+pub mod GoingLemmas
+pub mod NameLemmas
+pub mod PrepareLemmas
+pub mod PruneLemmas
+pub mod DefinedLemmas

@@ -1,0 +1,5 @@
+pub mod Committing
+pub mod Dropping
+pub mod Preparing
+pub mod Settling
+pub mod Defined
