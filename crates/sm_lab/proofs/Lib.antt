@@ -1,13 +1,4 @@
-pub mod CountLemmas
-pub mod FreeLemmas
-pub mod MoveLemmas
-pub mod SlotLemmas
-pub mod VolumeLemmas
-pub mod ReadLemmas
-pub mod NodeLemmas
-pub mod RunLemmas
-pub mod ReportLemmas
-pub mod OutputLemmas
-pub mod TopLemmas
-pub mod Laws
-pub mod GivenLemmas
+mod Faults
+mod Runs
+mod Calls
+mod Smooth

@@ -1,6 +1,5 @@
-pub mod Slots
-pub mod Node
-pub mod Reporting
-pub mod History
-pub mod Status
-pub mod Output
+pub mod Promises
+pub mod Running
+pub mod Reading
+pub mod Call
+pub mod Smooth

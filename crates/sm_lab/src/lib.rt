@@ -1,18 +1,14 @@
-//! The top call of the program: a script in, the transcript of its run out.
-//!
-//! The run goes over plain lists that are private to this crate.
+//! The top call of the program: words, a script and disks in, the transcript of its run out, and the disks back.
 #![tactic(auto)]
 
-mod history;
-mod node;
-mod output;
-mod report;
+mod commands;
+mod laws;
+mod outcome;
 mod run;
-mod slot;
-mod status;
-mod uses;
-mod volume;
-mod volumes;
+mod running;
 
-pub use run::run_lab;
-pub use status::Status;
+pub use laws::smooth_calls_end_well;
+pub use outcome::Outcome;
+pub use run::{run_lab, run_single};
+pub use sm_output::Status;
+pub use sm_words::{Mode, Options};

@@ -1,161 +1,150 @@
-ghost use Rattle.std.specs.Prelude.{◌≡◌, ◌≢◌, ◌+◌, ◌≤◌, [], All, Ok, IfOk, IfErr, OnOk, OnErr, true, false};
-ghost use Rattle.std.specs.Io.KnownBytes.{IsAtEnd};
+// The top call.
+ghost use Rattle.std.specs.Prelude.{◌≡◌, ◌+◌, ◌≤◌, ◌&&◌, [], Some, map, string_bytes, false};
 ghost use Rattle.sm_base.specs.declared.limits.TheConstants.{LONGEST_SCRIPT};
 ghost use Rattle.sm_stream.specs.Causes.{Rose};
 ghost use Rattle.sm_stream.specs.Whole.{TookAtMost};
-ghost use Rattle.sm_model.specs.InRange.{IsGiven};
-ghost use Rattle.sm_model.specs.Sound.{SoundUp};
-ghost use Rattle.sm_script.specs.Grammar.{IsCommand};
-ghost use Rattle.sm_lab.specs.History.{IsLegal, IsWholeRun, IsPartRun, EachWorld, EachDeed, ShowsOrigins, DropsAsNamed, KeepsNeeded};
-ghost use Rattle.sm_lab.specs.Output.{IsWritten};
-ghost use Rattle.sm_lab.specs.Status.{takes, Gave, IsCaused, IsDue, IsRun, HasHistory};
+ghost use Rattle.sm_output.specs.Output.{IsPrinted};
+ghost use Rattle.sm_words.specs.Words.{options_of};
+ghost use Rattle.sm_lab.specs.Call.{flow, lists, Ran, Ends};
 
-use crate::history::{run_commands, run_report};
-use crate::node::Node;
-use crate::output::print;
-use crate::report::report_of;
-use crate::status::Status;
+use crate::commands::read_commands;
+use crate::outcome::Outcome;
+use crate::running::run_on;
 use sm_base::NoMemory;
-use sm_base::limits::LONGEST_SCRIPT;
-use sm_model::Entry;
-use sm_script::{Command, Script, ScriptFault, read_script};
-use sm_stream::{ReadFault, Sink, Source, read_whole};
+use sm_disk::Disk;
+use sm_output::{Status, print};
+use sm_stream::{Sink, Source};
+use sm_words::{Mode, Options, read_words};
 use std::alloc::Global;
 
-/// The commands of the script, or how the call ends without them.
-fn read_commands<S: Source>(alloc: Global, script: &mut S) -> Result<Script, Status>
-    ensures ok { IfOk result (λ commands. Gave (S.left script.old) (S.left script.new) (Ok commands)) }
-    ensures commands { IfOk result (λ commands. All (λ c. IsCommand c.event) commands) }
-    ensures given { IfOk result (λ commands. All (λ c. IsGiven c.event) commands) }
-    ensures err { IfErr result (λ status. IsRun true (S.left script.old) (S.left script.new)
-        (Rose (S.fault_count script.old) (S.fault_count script.new)) [] status) }
-    ensures taken { TookAtMost (LONGEST_SCRIPT + 1) (S.left script.old) (S.left script.new) }
-    ensures later { S.fault_count script.old ≤ S.fault_count script.new }
+// A call in which no event ran.
+fn unrun<D: Disk + Drop>(alloc: Global, status: Status, disks: Vec<D>) -> Outcome<D>
+    ensures status { result.status ≡ status }
+    ensures disks { result.disks.items ≡ disks.items }
+    ensures history { result.history.items ≡ [] }
+    ensures sides { result.sides.items ≡ [] }
 {
-    let text = match read_whole(alloc, script, LONGEST_SCRIPT) {
-        Ok(text) => text,
-        Err(ReadFault::TooLong) => return Err(Status::ScriptTooLong),
-        Err(ReadFault::Failed) => return Err(Status::ReadFault),
-        Err(ReadFault::NoMemory) => return Err(Status::NoMemory),
-    };
-    match read_script(alloc, &text) {
-        Ok(commands) => Ok(commands),
-        Err(ScriptFault::BadLine { line, kind }) => Err(Status::BadLine { line, kind }),
-        Err(ScriptFault::NoMemory) => Err(Status::NoMemory),
+    Outcome {
+        status,
+        disks,
+        history: Vec::new(alloc),
+        sides: Vec::new(alloc),
     }
 }
 
-/// Runs the commands from the empty world, and then the report.
-fn run_all(alloc: Global, commands: &[Command], history: &mut Vec<Entry>) -> Result<(), NoMemory>
-    requires empty { history.old.items ≡ [] }
-    requires commands { All (λ c. IsCommand c.event) commands.now }
-    requires given { All (λ c. IsGiven c.event) commands.now }
-    ensures whole { OnOk result (IsWholeRun commands.now history.new.items) }
-    ensures part { OnErr result (IsPartRun commands.now history.new.items) }
-{
-    let mut node = Node::new(alloc)?;
-    run_commands(alloc, &mut node, history, commands)?;
-    let report = report_of(alloc, &node)?;
-    run_report(alloc, &mut node, history, &report)?;
-    Ok(())
-}
-
-/// Reads the script and runs it.
-fn run_script<S: Source>(alloc: Global, script: &mut S, history: &mut Vec<Entry>) -> Status
-    requires { history.old.items ≡ [] }
-    ensures run { IsRun true (S.left script.old) (S.left script.new)
-        (Rose (S.fault_count script.old) (S.fault_count script.new)) history.new.items result }
-    ensures taken { TookAtMost (LONGEST_SCRIPT + 1) (S.left script.old) (S.left script.new) }
-    ensures later { S.fault_count script.old ≤ S.fault_count script.new }
-{
-    match read_commands(alloc, script) {
-        Ok(commands) => match run_all(alloc, commands.commands(), history) {
-            Ok(()) => Status::Fine,
-            Err(NoMemory) => Status::NoMemory,
-        },
-        Err(status) => status,
-    }
-}
-
-/// Whether the words are a first word alone, or a first word and `run`.
-fn takes(words: &[String]) -> bool
-    ensures { result ≡ takes words.now }
-{
-    match words {
-        [_] => true,
-        [_, mode] => mode.as_str() == "run",
-        _ => false,
-    }
-}
-
-/// What the program does before it writes.
-fn decide<S: Source>(
+// A call in which no event ran, and what it writes.
+fn refuse<W: Sink, D: Disk + Drop>(
     alloc: Global,
-    words: &[String],
+    status: Status,
+    out: &mut W,
+    disks: Vec<D>,
+) -> Outcome<D>
+    ensures printed { IsPrinted false status [] (W.held out.old) (W.held out.new) (Rose (W.fault_count out.old) (W.fault_count out.new)) result.status }
+    ensures disks { result.disks.items ≡ disks.items }
+    ensures history { result.history.items ≡ [] }
+    ensures sides { result.sides.items ≡ [] }
+    ensures later { W.fault_count out.old ≤ W.fault_count out.new }
+{
+    let mut outcome = unrun(alloc, status, disks);
+    outcome.status = print(alloc, false, status, &[], out);
+    outcome
+}
+
+// What the options ask for, before anything is written.
+fn decide<S: Source, D: Disk + Drop>(
+    alloc: Global,
+    options: Options,
     script: &mut S,
-    history: &mut Vec<Entry>,
-) -> Status
-    requires { history.old.items ≡ [] }
-    ensures run { IsRun (takes words.now) (S.left script.old) (S.left script.new)
-        (Rose (S.fault_count script.old) (S.fault_count script.new)) history.new.items result }
-    ensures untouched { takes words.now ≡ false → script.new ≡ script.old }
+    disks: Vec<D>,
+) -> Outcome<D>
+    ensures ran { Ran D.state (record {
+      options = Some options;
+      script = flow (S.left script.old) (S.left script.new) (S.fault_count script.old) (S.fault_count script.new);
+      disks = disks.items;
+      disks_after = result.disks.items;
+      history = result.history.items;
+      sides = result.sides.items;
+    }) result.status }
     ensures taken { TookAtMost (LONGEST_SCRIPT + 1) (S.left script.old) (S.left script.new) }
     ensures later { S.fault_count script.old ≤ S.fault_count script.new }
 {
-    if !takes(words) {
-        return Status::Usage;
+    if options.workers > 0 {
+        return unrun(alloc, Status::Usage, disks);
     }
-    run_script(alloc, script, history)
+    match options.mode {
+        Mode::Run => match read_commands(alloc, script) {
+            Ok(script) => run_on(alloc, script.commands(), disks),
+            Err(status) => unrun(alloc, status, disks),
+        },
+        Mode::Report => run_on(alloc, &[], disks),
+    }
 }
 
-/// All that the program does: reads the script, runs it from the empty world, and writes the
-/// transcript of that run. The words have the program's name first. It answers how it ended, and the
-/// history, in which each entry is the script's actor's.
-pub fn run_lab<S: Source, W: Sink>(
+// Whether the lines of the entries are asked for.
+fn lists(options: Options) -> bool
+    ensures { result ≡ lists (Some options) }
+{
+    options.mode == Mode::Run && options.history
+}
+
+/// All that the program does for options that were read. In mode `run` it reads the script to its end, opens the node
+/// on the disks, does the commands one event after another, and asks for the report; in mode `report` it reads nothing
+/// and asks for the report alone. Only then is the output written, so that a sink that fails changes no disk.
+/// Everything is done in the caller's thread: workers are not built, and options that ask for some are answered
+/// [`Status::Usage`].
+pub fn run_single<S: Source, W: Sink, D: Disk + Drop>(
     alloc: Global,
-    words: Vec<String>,
+    options: Options,
     script: &mut S,
     out: &mut W,
-) -> (Status, Vec<Entry>)
-    // Each status has its cause, and the causes of two statuses exclude each other, but that a failing
-    // sink goes before the rest and that memory may run out at any time.
-    ensures status { IsCaused (takes words.items) (S.left script.old) (S.left script.new)
-        (Rose (S.fault_count script.old) (S.fault_count script.new)) (Rose (W.fault_count out.old) (W.fault_count out.new)) result.0 }
+    disks: Vec<D>,
+) -> Outcome<D>
+    // What it did and how it ended, with its history, its output and the disks.
+    ensures ends { Ends D.state (record {
+      options = Some options;
+      script = flow (S.left script.old) (S.left script.new) (S.fault_count script.old) (S.fault_count script.new);
+      disks = disks.items;
+      disks_after = result.disks.items;
+      history = result.history.items;
+      sides = result.sides.items;
+    }) (flow (W.held out.old) (W.held out.new) (W.fault_count out.old) (W.fault_count out.new)) result.status }
 
-    // Where nothing fails, the status is the one due by words and script.
-    ensures due { IsDue (takes words.items) (S.left script.old)
-        (Rose (S.fault_count script.old) (S.fault_count script.new)) (Rose (W.fault_count out.old) (W.fault_count out.new)) result.0 }
-
-    // The source is not touched for words that are no line of the command; else at most one byte is
-    // taken more than a script may have, and wherever an event ran, all of the script.
-    ensures untouched { takes words.items ≡ false → script.new ≡ script.old }
+    // At most one byte is taken more than a script may have.
     ensures taken { TookAtMost (LONGEST_SCRIPT + 1) (S.left script.old) (S.left script.new) }
-    ensures at_end { result.1.items ≢ [] → IsAtEnd (S.left script.new) }
 
     // The counts of failures never fall.
     ensures source_later { S.fault_count script.old ≤ S.fault_count script.new }
     ensures sink_later { W.fault_count out.old ≤ W.fault_count out.new }
-
-    // The history is a legal run, of the commands that the script spells and then of the report; it is
-    // whole at `Fine`, a beginning at `NoMemory`, and empty at every other status.
-    ensures run { IsLegal result.1.items }
-    ensures history { HasHistory (takes words.items) (S.left script.old) (S.left script.new)
-        (Rose (S.fault_count script.old) (S.fault_count script.new)) result.1.items result.0 }
-
-    // Every world of the run is sound, and each snapshot that it shows holds what its origin held.
-    ensures sound { EachWorld (λ deeds world. SoundUp world) result.1.items }
-    ensures contents { EachWorld ShowsOrigins result.1.items }
-
-    // The snapshots that the rules name are dropped, no others, and none that is needed.
-    ensures drops { EachDeed DropsAsNamed result.1.items }
-    ensures bases { EachDeed KeepsNeeded result.1.items }
-
-    // The sink got the output of this run, or a part of it where it failed.
-    ensures output { IsWritten (IsRun (takes words.items) (S.left script.old) (S.left script.new)
-        (Rose (S.fault_count script.old) (S.fault_count script.new)) result.1.items) result.1.items (W.held out.old) (W.held out.new) result.0 }
 {
-    let mut history = Vec::new(alloc);
-    let status = decide(alloc, &words, script, &mut history);
-    let status = print(alloc, status, &history, out);
-    (status, history)
+    let mut outcome = decide(alloc, options, script, disks);
+    outcome.status = print(alloc, lists(options), outcome.status, &outcome.history, out);
+    outcome
+}
+
+/// All that the program does for its words, the program's name first: as [`run_single`] for the options that they
+/// give. Words that are no line of the command are answered [`Status::Usage`].
+pub fn run_lab<S: Source, W: Sink, D: Disk + Drop>(
+    alloc: Global,
+    words: Vec<String>,
+    script: &mut S,
+    out: &mut W,
+    disks: Vec<D>,
+) -> Outcome<D>
+    ensures ends { Ends D.state (record {
+      options = options_of (map (λ w. string_bytes w) words.items);
+      script = flow (S.left script.old) (S.left script.new) (S.fault_count script.old) (S.fault_count script.new);
+      disks = disks.items;
+      disks_after = result.disks.items;
+      history = result.history.items;
+      sides = result.sides.items;
+    }) (flow (W.held out.old) (W.held out.new) (W.fault_count out.old) (W.fault_count out.new)) result.status }
+    ensures taken { TookAtMost (LONGEST_SCRIPT + 1) (S.left script.old) (S.left script.new) }
+    ensures source_later { S.fault_count script.old ≤ S.fault_count script.new }
+    ensures sink_later { W.fault_count out.old ≤ W.fault_count out.new }
+{
+    match read_words(alloc, &words) {
+        Ok(Some(options)) => run_single(alloc, options, script, out, disks),
+        Ok(None) => refuse(alloc, Status::Usage, out, disks),
+        Err(NoMemory) => refuse(alloc, Status::NoMemory, out, disks),
+    }
 }

@@ -16,6 +16,4 @@ mod names;
 #[cfg(test)]
 mod roots;
 #[cfg(test)]
-mod scripts;
-#[cfg(test)]
 mod streams;

@@ -1,32 +1,14 @@
-use Rattle.sm_stream.specs.Causes.{Rose}
-use Rattle.sm_lab.specs.declared.status.Status.{Status}
-use Rattle.sm_lab.specs.Status.{takes, IsRun}
-use Rattle.sm_lab.proofs.TopLemmas.{legal, written}
-use Rattle.sm_lab.proofs.Laws.{sound, contents, drops, bases}
+use Rattle.std.proofs.Common.{refl, sym, ◌∙◌}
+use Rattle.sm_lab.proofs.Calls.{no_line_ends, no_words_ends}
 use Rattle.sm_lab.proofs.run.run_lab.Goals as goal
 
-pub returns-clause-run : goal.returns-clause-run
-returns-clause-run g c =
-    let d = c.decide-status in
-    legal (g.S.Source.left c.args.script.now) (g.S.Source.left d.new.script) d.result d.new.history.items d.ensures.run.1
+pub returns-in-Ok-None-clause-ends : goal.returns-in-Ok-None-clause-ends
+returns-in-Ok-None-clause-ends g c =
+    let r = c.refuse.ensures in
+    let none = sym (rw c.deref.ensures.value at c.in-Ok-None.ensures) ∙ c.in-Ok-None.field-0-is in
+    no_line_ends g.D.Disk.state _ _ c.refuse.result.status none (refl, refl) (record { history = r.history; sides = r.sides; disks = r.disks }) r.printed
 
-pub returns-clause-sound : goal.returns-clause-sound
-returns-clause-sound g c = sound c.decide-status.new.history.items
-
-pub returns-clause-contents : goal.returns-clause-contents
-returns-clause-contents g c = contents c.decide-status.new.history.items
-
-pub returns-clause-drops : goal.returns-clause-drops
-returns-clause-drops g c = drops c.decide-status.new.history.items
-
-pub returns-clause-bases : goal.returns-clause-bases
-returns-clause-bases g c = bases c.decide-status.new.history.items
-
-pub returns-clause-output : goal.returns-clause-output
-returns-clause-output g c =
-    let d = c.decide-status in
-    let printed = rw c.deref-2.ensures.value at c.print-status.ensures.printed in
-    let run = rw c.deref.ensures.value at d.ensures.run in
-    let read = Rose (g.S.Source.fault_count c.args.script.now) (g.S.Source.fault_count d.new.script) in
-    let before : Status → Type 0 = IsRun (takes c.args.words.items) (g.S.Source.left c.args.script.now) (g.S.Source.left d.new.script) read d.new.history.items in
-    written before d.result c.print-status.result d.new.history.items (g.W.Sink.held c.args.out.now) (g.W.Sink.held c.print-status.new.out) run printed
+pub returns-clause-ends : goal.returns-clause-ends
+returns-clause-ends g c =
+    let r = c.refuse-in-Err.ensures in
+    no_words_ends g.D.Disk.state _ _ c.refuse-in-Err.result.status (refl, refl) (record { history = r.history; sides = r.sides; disks = r.disks }) r.printed

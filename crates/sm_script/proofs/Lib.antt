@@ -1,8 +1,0 @@
-pub mod NumberLemmas
-pub mod SplitLemmas
-pub mod SpellingLemmas
-pub mod SoundLemmas
-pub mod SpacedLemmas
-pub mod CompleteLemmas
-pub mod ScriptLemmas
-pub mod Front

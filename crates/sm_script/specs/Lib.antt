@@ -1,6 +1,0 @@
-pub mod Lines
-pub mod Number
-pub mod Words
-pub mod Grammar
-pub mod Script
-pub mod Spelling
