@@ -1,21 +1,33 @@
 #!/bin/sh
-# Times the program on scripts of 1 MiB and of 16 MiB of `client write` lines, and compares the two: at
-# sixteen times the length at most twenty times the time is wanted. Not run by the gate.
+# Times the program on scripts of 1 MiB and of 16 MiB of lines of mixed forms, and compares the two: at sixteen
+# times the length at most twenty times the time is wanted. Not run by the gate.
 top=$(CDPATH='' cd -- "$(dirname -- "$0")/.." && pwd) || exit 1
 room=$(mktemp -d) || exit 1
 trap 'rm -rf -- "$room"' EXIT
 trap 'exit 1' HUP INT TERM
 
-# A script of at most this many bytes, filled up with writes. All lines are as long as one another, so
-# that the number of lines is known.
+# A script of at most this many bytes: writes in three spellings, reads, tables, consistency points, comments and
+# lines without a word, over and over.
 make_script() {
     awk -v room="$1" 'BEGIN {
-        first = "volume create -path s:a -disk 1 -type rw -blocks 4096 -physical 16384"
-        print first
-        room -= length(first) + 1
-        line = "client write -path s:a -block %04d -fill %03d\n"
-        each = length(sprintf(line, 0, 0))
-        for (i = 0; each * (i + 1) <= room; i++) printf line, i % 4096, i % 256
+        put("volume create -path s:a -disk 1 -type rw -blocks 4096 -physical 16384")
+        put("snapshot create -path s:a -snapshot first")
+        for (i = 0; room > 0; i++) {
+            block = i % 4096
+            put("client write -path s:a -block " block " -fill " i % 256)
+            put("client  write\t-fill " (i + 1) % 256 " -block " block " -path s:a")
+            put("client write -block " block " -count 1 -fill 7 -path s:a")
+            put("# the block is read back, and as the snapshot has it")
+            put("lab read -path s:a -block " block)
+            put("lab read -block " block " -snapshot first -path s:a")
+            put("")
+            if (i % 16 == 0) put("lab cp -path s:a")
+            if (i % 64 == 0) put("snapshot show -path s:a")
+        }
+    }
+    function put(line) {
+        room -= length(line) + 1
+        if (room >= 0) print line
     }'
 }
 
