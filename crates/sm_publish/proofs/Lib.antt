@@ -1,6 +1,5 @@
 pub mod CommitLemmas
 pub mod GoingLemmas
-pub mod NameLemmas
 pub mod PrepareLemmas
 pub mod PruneLemmas
 pub mod DefinedLemmas

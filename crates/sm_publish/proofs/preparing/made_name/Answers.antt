@@ -1,6 +1,6 @@
 use Rattle.std.proofs.Common.{ap, ◌∙◌, arith}
 use Rattle.sm_base.specs.Name.{is_snapshot_name}
-use Rattle.sm_publish.proofs.NameLemmas.{made_is_name}
+use Rattle.laws_form.proofs.MadeNames.{made_is_name}
 use Rattle.sm_publish.proofs.preparing.made_name.Goals as goal
 
 pub name_of-requires : goal.name_of-requires
